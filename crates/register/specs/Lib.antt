@@ -1,0 +1,7 @@
+-- To be believed, in this order: the initial state, the numbered steps and the flickers, one move with its refusals, moves one after another.
+pub mod Initial
+pub mod Steps
+pub mod Move
+pub mod Run
+-- Mechanical, not to be believed: a setter for each field. A slip there is caught by the proofs against the code.
+pub mod Set
