@@ -1,6 +1,6 @@
 -- How to show something of every answer: by the rows of the tables, and by the tests before them. And what a good answer tells.
 -- Assumes nothing.
-use mathlib.Core.Path.{_≡_, refl, ap, sym, _∙_}
+use mathlib.Core.Path.{_≡_, refl}
 use mathlib.Core.List.{List, [], _∷_}
 use mathlib.Core.Bool.{Bool, true, false, not, _&&_, false≢true}
 use Prim.Native.Nat.{ℕ, _≤_}
@@ -12,7 +12,7 @@ use Rattle.register.specs.declared.State.{State}
 use Rattle.register.specs.declared.Moved.{Moved}
 use Rattle.register.specs.declared.Move.{Move}
 use Rattle.register.specs.Steps.{if_then_else_}
-use Rattle.register.specs.Move.{Row, row, answerAt, good, refused, stepOf, answerTo, inRange, isClash, carriedBit}
+use Rattle.register.specs.Move.{Row, answerAt, refused, stepOf, answerTo, inRange, isClash, carriedBit}
 
 pub if-case : {A : Type 0} (P : A → Type 0) (b : Bool) {x y : A} → (b ≡ true → P x) → (b ≡ false → P y) → P (if b then x else y)
 if-case P true f g = f refl

@@ -1,2 +1,7 @@
 pub mod Cases
 pub mod Range
+pub mod InBounds
+pub mod Unique
+pub mod InitialPins
+pub mod Stays
+pub mod Flickers

@@ -5,3 +5,5 @@ pub mod Move
 pub mod Run
 -- Mechanical, not to be believed: a setter for each field. A slip there is caught by the proofs against the code.
 pub mod Set
+-- A device, not to be believed: what the private functions rest on.
+pub mod Device

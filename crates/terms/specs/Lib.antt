@@ -1,3 +1,4 @@
--- To be believed, both.
+-- To be believed, all.
+pub mod Choice
 pub mod Value
 pub mod Refusals

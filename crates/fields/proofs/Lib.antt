@@ -1,0 +1,9 @@
+pub mod Table
+pub mod Numbers
+pub mod Reading
+pub mod Writing
+pub mod Back
+pub mod Walks
+pub mod Visits
+pub mod Recorded
+pub mod Unique

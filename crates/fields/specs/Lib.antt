@@ -1,0 +1,7 @@
+-- To be believed, in this order: numbers, the tags, one field, the walk over a whole file, the events of a log, what each function promises.
+pub mod Numbers
+pub mod Tags
+pub mod Field
+pub mod Walk
+pub mod Events
+pub mod Promises

@@ -1,0 +1,1 @@
+// No code: the theory of logs stands in specs/.
