@@ -282,6 +282,9 @@ fn shown(s: State, m: Move) -> State {
     byte(b", r ", t.r);
     byte(b", aw ", t.aw);
     byte(b", ww ", t.ww);
+    byte(b", rr ", t.rr);
+    byte(b", c ", t.c[0]);
+    byte(b" ", t.c[1]);
     word(b", masq ", t.masq);
     word(b", writer's start ", t.startw);
     word(b", number ", t.numberw);

@@ -10,7 +10,7 @@ use Rattle.register.specs.declared.Move.{Move}
 use Rattle.register.specs.declared.Move.the-variants.{WriterStart, WriterStep, WriterFlicker, ReaderStep, ReaderFlicker}
 use Rattle.register.specs.Move.{inRange, carriedBit}
 use Rattle.register.proofs.Range.{bounds}
-use Rattle.invariants.specs.Shaped.{Shaped}
+use Rattle.register.specs.Shaped.{Shaped}
 use Rattle.invariants.proofs.Device.{WLoc, w20, w21, w22, w23, w24, w25, w26, w27, RLoc, r40, r41, r42, r43, r44, Data, Act, start, writes, writer-flickers, reads, reader-flickers}
 use Rattle.invariants.proofs.Inv.{wnum, rnum}
 use Rattle.invariants.proofs.Link.{num, pair, table, conc, move}
@@ -76,9 +76,9 @@ decode s e h =
     let r = reader-location (s .r - 40) (omega arith) in
     let q-is : s .q ≡ wnum (q .0) = omega (arith, q .1) in
     let r-is : s .r ≡ rnum (r .0) = omega (arith, r .1) in
-    let buf = table-of (s .bufs) (h .bufs) in
-    let tag = table-of (s .tags) (h .tags) in
-    let c = pair-of (s .c) (h .c) (b .c0) (b .c1) in
+    let buf = table-of (s .bufs) (h .four-bufs) in
+    let tag = table-of (s .tags) (h .four-tags) in
+    let c = pair-of (s .c) (h .two-bits) (b .c0) (b .c1) in
     let ww = bit-of (s .ww) (b .ww) in
     let rr = bit-of (s .rr) (b .rr) in
     let aw = bit-of (s .aw) (b .aw) in

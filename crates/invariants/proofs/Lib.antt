@@ -9,7 +9,6 @@ pub mod Link
 pub mod Decode
 pub mod FromDevice
 pub mod ToDevice
-pub mod InRange
 pub mod HeldKept
 pub mod Preserved
 pub mod Start

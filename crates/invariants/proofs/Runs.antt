@@ -10,7 +10,7 @@ use Rattle.register.specs.declared.Moved.{Moved}
 use Rattle.register.specs.declared.Move.{Move}
 use Rattle.register.specs.declared.Move.the-variants.{WriterStart, WriterStep, WriterFlicker, ReaderStep, ReaderFlicker}
 use Rattle.register.specs.Initial.{initial}
-use Rattle.register.specs.Steps.{if_then_else_}
+use Rattle.terms.specs.Choice.{if_then_else_}
 use Rattle.register.specs.Move.{good, answerTo}
 use Rattle.register.specs.Run.{andThen, made, Ran, given}
 

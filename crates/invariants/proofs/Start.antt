@@ -5,6 +5,7 @@ use mathlib.Core.List.{[], _∷_}
 use native.Mathlib.Omega.{arith}
 use Rattle.terms.specs.Value.{Value}
 use Rattle.register.specs.Initial.{initial}
+use Rattle.register.proofs.Stays.{initial-shaped, initial-in-range}
 use Rattle.invariants.specs.Held.{Held}
 use Rattle.invariants.proofs.Device.{w20, r40, Data}
 use Rattle.invariants.proofs.Inv.{Inv}
@@ -37,8 +38,8 @@ first-invariants v = search arith
 
 pub initial-lawful : (v : Value) → Lawful (initial v)
 initial-lawful v = record {
-  in-range = refl;
-  shaped = record { bufs = refl; tags = refl; c = refl };
+  in-range = initial-in-range v;
+  shaped = initial-shaped v;
   invariants = from-device w20 r40 (first v) (first-invariants v);
 }
 

@@ -11,7 +11,7 @@ use Rattle.register.specs.Initial.{initial}
 use Rattle.register.specs.Move.{good, answerTo, inRange, isClash}
 use Rattle.register.specs.Run.{made, Ran, given}
 use Rattle.invariants.specs.Invariants.{Invariants}
-use Rattle.invariants.specs.Shaped.{Shaped}
+use Rattle.register.specs.Shaped.{Shaped}
 use Rattle.invariants.specs.Held.{Held}
 use Rattle.invariants.proofs.Start.{initial-lawful, initial-held}
 use Rattle.invariants.proofs.NoClash.{no-clash}

@@ -2,25 +2,18 @@
 -- Assumes nothing.
 use mathlib.Core.Path.{_≡_, refl}
 use mathlib.Core.List.{List, [], _∷_}
-use mathlib.Core.Bool.{Bool, true, false, not, _&&_, false≢true}
+use mathlib.Core.Bool.{Bool, true, false, not, _&&_}
 use Prim.Native.Nat.{ℕ, _≤_}
 use native.Mathlib.Omega.{arith}
 use lib.Dec.{eqb, leb}
 use borrow.Author.Tests.{eqb-true, leb-true, not-false}
+use Rattle.terms.specs.Choice.{if_then_else_}
 use Rattle.terms.specs.Refusals.{misfit, out-of-range, clash}
+use Rattle.terms.proofs.Tests.{both, if-case}
 use Rattle.register.specs.declared.State.{State}
 use Rattle.register.specs.declared.Moved.{Moved}
 use Rattle.register.specs.declared.Move.{Move}
-use Rattle.register.specs.Steps.{if_then_else_}
 use Rattle.register.specs.Move.{Row, answerAt, refused, stepOf, answerTo, inRange, isClash, carriedBit}
-
-pub if-case : {A : Type 0} (P : A → Type 0) (b : Bool) {x y : A} → (b ≡ true → P x) → (b ≡ false → P y) → P (if b then x else y)
-if-case P true f g = f refl
-if-case P false f g = g refl
-
-pub both : (a b : Bool) → (a && b) ≡ true → (a ≡ true) × (b ≡ true)
-both true b e = (refl, e)
-both false b e = absurd (false≢true e)
 
 -- a fact of a row, and those of the rows after it
 infixr 8 _⨾_

@@ -10,7 +10,7 @@ use borrow.Author.Tests.{leb-true, le-leb}
 use Rattle.register.specs.declared.State.{State}
 use Rattle.register.specs.Steps.{cAt, tagAt}
 use Rattle.register.specs.Move.{inRange, allAtMost, bitsOf, numbersOf, between}
-use Rattle.register.proofs.Cases.{both}
+use Rattle.terms.proofs.Tests.{both}
 
 pub each : (n : ℕ) (xs : List ℕ) → allAtMost n xs ≡ true → (i : ℕ) → getD xs i 0 ≤ n
 each n [] e i = zero-le

@@ -8,36 +8,29 @@ use native.Mathlib.Omega.{arith}
 use borrow.Author.Needs.{needs}
 use borrow.Author.Tests.{eqb-false}
 use lib.Dec.{eqb}
-use lib.ListN.{length, length-set, getD, set}
+use lib.ListN.{length-set, getD, set}
 use Rattle.terms.specs.Value.{Value}
+use Rattle.terms.proofs.Tests.{if-case}
 use Rattle.register.specs.declared.State.{State}
 use Rattle.register.specs.declared.Moved.{Moved}
 use Rattle.register.specs.declared.Move.{Move}
 use Rattle.register.specs.declared.Move.the-variants.{WriterStart, WriterStep, WriterFlicker, ReaderStep, ReaderFlicker}
 use Rattle.register.specs.Initial.{initial}
+use Rattle.register.specs.Shaped.{Lengths, Shaped}
 use Rattle.register.specs.Steps.{tagAt}
 use Rattle.register.specs.Move.{stepOf, answerTo, inRange, carriedBit, startRows, writerRows, writerFlickerRows, readerRows, readerFlickerRows}
-use Rattle.register.proofs.Cases.{if-case, rows-case, answer-case, _⨾_}
+use Rattle.register.proofs.Cases.{rows-case, answer-case, _⨾_}
 use Rattle.register.proofs.Range.{Bounds, bounds, in-range}
 use Rattle.register.proofs.InBounds.{picked}
-
--- The lengths: four buffers, four tags, two bits c.
-pub record Lengths (bufs : List Value) (tags c : List ℕ) : Type 0 where
-  pub bufs-4 : length bufs ≡ 4
-  pub tags-4 : length tags ≡ 4
-  pub c-2 : length c ≡ 2
-
-abbrev pub Shaped : State → Type 0
-Shaped s = Lengths (s .bufs) (s .tags) (s .c)
 
 abbrev ShapedAfter : Moved → Type 0
 ShapedAfter a = Shaped (a .state)
 
-in-c : {b t c : List ℕ} (i v : ℕ) → Lengths b t c → Lengths b t (set c i v)
-in-c i v h = record { bufs-4 = h .bufs-4; tags-4 = h .tags-4; c-2 = simp length-set (h .c-2) }
+in-c : {b : List Value} {t c : List ℕ} (i v : ℕ) → Lengths b t c → Lengths b t (set c i v)
+in-c i v h = record { four-bufs = h .four-bufs; four-tags = h .four-tags; two-bits = simp length-set (h .two-bits) }
 
-in-buf : {b t c : List ℕ} (i v w : ℕ) → Lengths b t c → Lengths (set b i v) (set t i w) c
-in-buf i v w h = record { bufs-4 = simp length-set (h .bufs-4); tags-4 = simp length-set (h .tags-4); c-2 = h .c-2 }
+in-buf : {b : List Value} {t c : List ℕ} (i : ℕ) (v : Value) (w : ℕ) → Lengths b t c → Lengths (set b i v) (set t i w) c
+in-buf i v w h = record { four-bufs = simp length-set (h .four-bufs); four-tags = simp length-set (h .four-tags); two-bits = h .two-bits }
 
 step-shaped : (m : Move) (s : State) → Shaped s → ShapedAfter (stepOf m s)
 step-shaped (WriterStart v) s h =
@@ -67,7 +60,7 @@ pub shaped-kept : (s : State) (m : Move) → Shaped s → Shaped (answerTo s m .
 shaped-kept s m h = answer-case ShapedAfter s m (λ n. h) (λ r b k. step-shaped m s h)
 
 pub initial-shaped : (v0 : Value) → Shaped (initial v0)
-initial-shaped v0 = record { bufs-4 = refl; tags-4 = refl; c-2 = refl }
+initial-shaped v0 = record { four-bufs = refl; four-tags = refl; two-bits = refl }
 
 pub initial-in-range : (v0 : Value) → inRange (initial v0) ≡ true
 initial-in-range v0 = refl

@@ -1,16 +1,17 @@
 -- To be believed: one move with its refusals (document 01, "A move is one of five kinds" to "A clash is", and "For a single move: 9, 10, 6, 12").
 use Prim.Native.Nat.{ℕ}
 use mathlib.Core.Path.{_≡_}
-use mathlib.Core.Bool.{Bool, true, false, _||_, _&&_, not}
+use mathlib.Core.Bool.{Bool, true, _||_, _&&_, not}
 use mathlib.Core.List.{List, [], _∷_}
 use lib.Dec.{leb, eqb}
+use Rattle.terms.specs.Choice.{if_then_else_}
 use Rattle.terms.specs.Value.{Value}
 use Rattle.terms.specs.Refusals.{good-number, misfit, out-of-range, clash, number-spent}
 use Rattle.register.specs.declared.State.{State}
 use Rattle.register.specs.declared.Moved.{Moved}
 use Rattle.register.specs.declared.Move.{Move}
 use Rattle.register.specs.declared.Move.the-variants.{WriterStart, WriterStep, WriterFlicker, ReaderStep, ReaderFlicker}
-use Rattle.register.specs.Steps.{if_then_else_, opposite, cAt, tagAt, step20, step21, step22, step23, step24, step25, step26, step27, step40, step41, step42, step43, step44, flicker21, flicker24, flicker26, flicker41}
+use Rattle.register.specs.Steps.{opposite, cAt, tagAt, step20, step21, step22, step23, step24, step25, step26, step27, step40, step41, step42, step43, step44, flicker21, flicker24, flicker26, flicker41}
 
 -- "Every answer has a number (0 is good) and a place: .. 0 for .. single moves."
 abbrev pub good : State → Moved

@@ -4,6 +4,7 @@ use mathlib.Core.Path.{_≡_}
 use mathlib.Core.List.{List, [], _∷_}
 use lib.Dec.{eqb}
 use lib.ListN.{getD}
+use Rattle.terms.specs.Choice.{if_then_else_}
 use Rattle.terms.specs.Value.{Value, noValue}
 use Rattle.terms.specs.Refusals.{good-number}
 use Rattle.register.specs.declared.State.{State}
@@ -11,7 +12,6 @@ use Rattle.register.specs.declared.Moved.{Moved}
 use Rattle.register.specs.declared.Move.{Move}
 use Rattle.register.specs.declared.Move.the-variants.{WriterStart, WriterStep, WriterFlicker, ReaderStep, ReaderFlicker}
 use Rattle.register.specs.Initial.{initial}
-use Rattle.register.specs.Steps.{if_then_else_}
 use Rattle.register.specs.Move.{good, answerTo}
 
 -- An answer, and what follows if it is good.

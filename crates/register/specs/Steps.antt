@@ -1,17 +1,12 @@
 -- To be believed: the numbered steps (document 01, "The numbered steps"; 001, section 3) and the flickers (001, formula 2), each in the order
 -- of its text. `s ∣q≔ 22` is the state s with q at 22 (Set.antt). The struct has lists of 4, 4 and 2.
 use Prim.Native.Nat.{ℕ, _+_, _-_, _*_, max}
-use mathlib.Core.Bool.{Bool, true, false}
 use lib.Dec.{eqb}
 use lib.ListN.{set, getD}
+use Rattle.terms.specs.Choice.{if_then_else_}
 use Rattle.terms.specs.Value.{Value, noValue}
 use Rattle.register.specs.declared.State.{State}
 use Rattle.register.specs.Set.{_∣bufs≔_, _∣tags≔_, _∣ww≔_, _∣rr≔_, _∣c≔_, _∣q≔_, _∣aw≔_, _∣cw≔_, _∣startw≔_, _∣numberw≔_, _∣kept≔_, _∣r≔_, _∣br≔_, _∣cr≔_, _∣value≔_, _∣startr≔_, _∣numberr≔_, _∣masq≔_}
-
-infixr 10 if_then_else_
-abbrev pub if_then_else_ : {A : Type 0} → Bool → A → A → A
-if true then a else b = a
-if false then a else b = b
 
 -- "Not" of a bit b is 1 − b.
 abbrev pub opposite : ℕ → ℕ

@@ -8,7 +8,7 @@ use borrow.Author.Tests.{not-false}
 use Rattle.register.specs.declared.State.{State}
 use Rattle.register.specs.Device.{InBounds}
 use Rattle.register.specs.Move.{answerTo, inRange}
-use Rattle.register.proofs.Cases.{both}
+use Rattle.terms.proofs.Tests.{both}
 use Rattle.register.proofs.InBounds.{in-bounds}
 use Rattle.register.proofs.State.moved.Statement.{statement}
 use Rattle.register.proofs.State.moved.Tie as tie
