@@ -277,7 +277,7 @@ fn shown(s: State, m: Move) -> State {
     let a = s.moved(m);
     let t = a.state;
     word(b"answer ", a.number);
-    place(b" ", a.place);
+    place(b" place ", a.place);
     byte(b", q ", t.q);
     byte(b", r ", t.r);
     byte(b", aw ", t.aw);
