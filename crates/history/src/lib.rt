@@ -1,1 +1,1 @@
-// No code: the theory of logs stands in specs/.
+// No code: the definitions about logs stand in specs/, what is proved of them in proofs/.

@@ -5,3 +5,4 @@ pub mod Unique
 pub mod InitialPins
 pub mod Stays
 pub mod Flickers
+pub mod Refused

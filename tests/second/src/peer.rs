@@ -14,3 +14,4 @@ pub mod files;
 pub mod machine;
 pub mod random;
 pub mod run;
+mod words;
