@@ -34,7 +34,7 @@ impl LogMaker {
         let manner = Manner {
             writer: random.between(2, 14),
             same_party_again: random.pick(&[0, 0, 4, 12, 15]),
-            stray: random.pick(&[0, 0, 0, 2, 8, 64]),
+            stray: random.pick(&[0, 0, 2, 4, 8, 64]),
             newest: random.chance(1, 4),
             values: Values::random(random),
         };

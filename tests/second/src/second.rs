@@ -5,6 +5,7 @@
 //! ended, to standard output. The status is 0 only if there was no difference
 //! and every floor of the coverage was reached.
 
+mod bench_table;
 mod coverage;
 mod damage;
 mod library;
@@ -46,13 +47,14 @@ fn main() -> ExitCode {
         work(&mut tally, &mut Random::new(seed.wrapping_mul(8).wrapping_add(number)));
         println!("{name}: {} cases", tally.cases - before);
     };
+    phase("bench table", 0, &|tally, _| bench_table::check(tally));
     phase("every control state", 0, &moves::check_every_control_state);
     phase("single moves", 1, &|tally, random| moves::check_random(tally, random, SINGLE_MOVES));
     phase("every small log of two values", 2, &|tally, random| {
-        logs::check_every_small_log(tally, random, 11, 2)
+        logs::check_every_small_log(tally, random, 12, 2)
     });
     phase("every small log of three values", 3, &|tally, random| {
-        logs::check_every_small_log(tally, random, 9, 3)
+        logs::check_every_small_log(tally, random, 10, 3)
     });
     phase("logs", 4, &|tally, random| logs::check_random(tally, random, LOGS));
     phase("schedules", 5, &|tally, random| schedules::check_random(tally, random, SCHEDULES));
