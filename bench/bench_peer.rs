@@ -34,8 +34,7 @@ fn library_judge(log: &[u8]) -> [u32; 7] {
 }
 
 fn peer_judge(log: &[u8]) -> [u32; 7] {
-    let a = fast_judge::judge(log);
-    [a.answer, a.place, a.atomic, a.first, a.writes, a.reads, a.overlapped]
+    fast_judge::judge(log).words()
 }
 
 fn library_run(schedule: &[u8], out: &mut [u8]) -> [u32; 3] {
@@ -48,8 +47,7 @@ fn library_run(schedule: &[u8], out: &mut [u8]) -> [u32; 3] {
 }
 
 fn peer_run(schedule: &[u8], out: &mut [u8]) -> [u32; 3] {
-    let a = fast_run::run(schedule, out);
-    [a.answer, a.place, a.length]
+    fast_run::run(schedule, out).words()
 }
 
 /// Nanoseconds per byte of one measurement.
@@ -85,12 +83,7 @@ fn judge_shape(shape: &Shape, size: usize) {
     let log = (shape.make)(size);
     assert_eq!(library_judge(&log), peer_judge(&log), "the judges differ on: {}", shape.name);
     assert_eq!(peer_judge(&log)[0], 0, "a refused log: {}", shape.name);
-    compare(
-        shape.name,
-        &log,
-        &mut |log| library_judge(log)[0],
-        &mut |log| peer_judge(log)[0],
-    );
+    compare(shape.name, &log, &mut |log| library_judge(log)[0], &mut |log| peer_judge(log)[0]);
 }
 
 fn run_shape(shape: &Shape, size: usize) {

@@ -26,7 +26,14 @@ const READER_VALUE: usize = 21;
 const READER_START: usize = 22;
 const READER_NUMBER: usize = 23;
 
-fn expect(tally: &mut Tally, name: &str, case: String, right: String, second: String, library: String) {
+fn expect(
+    tally: &mut Tally,
+    name: &str,
+    case: String,
+    right: String,
+    second: String,
+    library: String,
+) {
     tally.cases += 1;
     if second != right || library != right {
         let lines = [
@@ -67,7 +74,7 @@ fn runs(tally: &mut Tally, name: &str, schedule: &[u8], room: usize, right: [u32
     let mut ours = vec![0xEE; room];
     let mut theirs = ours.clone();
     let answer = run::run(schedule, &mut ours);
-    let ours = format!("{:?} {}", [answer.answer, answer.place, answer.length], hex(&ours));
+    let ours = format!("{:?} {}", answer.words(), hex(&ours));
     let mut answer = [0; 3];
     library::run(schedule, &mut theirs, &mut answer);
     let theirs = format!("{answer:?} {}", hex(&theirs));
@@ -78,14 +85,12 @@ fn runs(tally: &mut Tally, name: &str, schedule: &[u8], room: usize, right: [u32
 
 /// Answer, place, atomic, first, writes, reads, overlapped.
 fn judged(tally: &mut Tally, name: &str, log: &[u8], right: [u32; 7]) {
-    let ours = fast_judge::judge(log);
-    let by_every_order = brute::judge(log);
     let mut theirs = [0; 7];
     library::judge(log, &mut theirs);
-    let ours_agree = ours == by_every_order;
-    let ours = [ours.answer, ours.place, ours.atomic, ours.first, ours.writes, ours.reads, ours.overlapped];
-    let ours = if ours_agree { format!("{ours:?}") } else { "disagrees with every order".to_string() };
-    expect(tally, name, hex(log), format!("{right:?}"), ours, format!("{theirs:?}"));
+    for ours in [fast_judge::judge(log), brute::judge(log)] {
+        let ours = format!("{:?}", ours.words());
+        expect(tally, name, hex(log), format!("{right:?}"), ours, format!("{theirs:?}"));
+    }
 }
 
 fn schedule(initial: u32, moves: &[Move]) -> Vec<u8> {
@@ -148,11 +153,7 @@ pub fn check(tally: &mut Tally) {
     runs(tally, "P6", &schedule(5, &p6), 40, [0, 0, 34], &p6_log);
     judged(tally, "P6", &p6_log, [0, 0, 1, 0, 0, 2, 0]);
 
-    let p7 = [
-        &FIVE[..],
-        &[(READ_BEGAN, 0), (WRITE_BEGAN, 9), (READ_ENDED, 9)],
-        &READ_5,
-    ];
+    let p7 = [&FIVE[..], &[(READ_BEGAN, 0), (WRITE_BEGAN, 9), (READ_ENDED, 9)], &READ_5];
     judged(tally, "P7", &log(&p7.concat()), [0, 0, 0, 2, 0, 2, 1]);
     let p8 = [&FIVE[..], &WRITE_9, &[(WRITE_BEGAN, 5)], &READ_9, &READ_5];
     judged(tally, "P8", &log(&p8.concat()), [0, 0, 1, 0, 1, 2, 0]);
@@ -174,7 +175,8 @@ pub fn check(tally: &mut Tally) {
         answers(tally, "the clash", clash, the_move, 10);
     }
     let last_but_one = State { writer_number: 65_534, ..start };
-    after(tally, "number 65,534", last_but_one, &[WriterStart(9)], &[(Q, 21), (WRITER_NUMBER, 65_535)]);
+    let gone_to_21 = [(Q, 21), (WRITER_NUMBER, 65_535)];
+    after(tally, "number 65,534", last_but_one, &[WriterStart(9)], &gone_to_21);
     let last = State { writer_number: 65_535, ..start };
     answers(tally, "number 65,535", last, WriterStart(9), 12);
 }

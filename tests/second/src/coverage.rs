@@ -114,7 +114,12 @@ impl Coverage {
         report.refusals("single moves", &self.move_answers, &MOVE_REFUSALS);
         report.refusals("schedules", &self.schedule_answers, &SCHEDULE_REFUSALS);
         report.refusals("logs", &self.log_answers, &LOG_REFUSALS);
-        report.share("accepted schedules", self.schedule_answers[0], total(&self.schedule_answers), 3);
+        report.share(
+            "accepted schedules",
+            self.schedule_answers[0],
+            total(&self.schedule_answers),
+            3,
+        );
         report.share("accepted logs", self.log_answers[0], total(&self.log_answers), 3);
         for (name, moves) in [("single moves", &self.single_moves), ("runs", &self.run_moves)] {
             report.locations(name, moves);
@@ -166,7 +171,11 @@ impl Report {
 
     fn locations(&mut self, name: &str, moves: &Moves) {
         for location in (20..=27).chain(40..=44) {
-            self.floor(&format!("{name}, steps at {location}"), moves.steps_at[at(location)], FLOOR);
+            self.floor(
+                &format!("{name}, steps at {location}"),
+                moves.steps_at[at(location)],
+                FLOOR,
+            );
         }
         for place in FLICKER_PLACES {
             let count = moves.flickers_at[at(place)];

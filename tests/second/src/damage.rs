@@ -69,7 +69,7 @@ fn damage_a_field(random: &mut Random, file: &mut Vec<u8>, beginnings: &[usize])
         0 => drop(file.drain(at..end)),
         1 => insert(file, at, &field),
         2 => {
-            // Swapped with a field further on.
+            // Moved to about where a field further on stands.
             let to = random.pick(&beginnings[which..]).min(file.len() - field.len());
             drop(file.drain(at..end));
             insert(file, to, &field);

@@ -27,9 +27,7 @@ pub fn judge(log: &[u8], answer: &mut [u32; 7]) -> u32 {
 /// Fills the answer and gives back the number that the function returned.
 pub fn run(schedule: &[u8], out: &mut [u8], answer: &mut [u32; 3]) -> u32 {
     // SAFETY: as above, and an exclusive borrow overlaps no other.
-    unsafe {
-        chaemodul_run(schedule.as_ptr(), schedule.len(), out.as_mut_ptr(), out.len(), answer)
-    }
+    unsafe { chaemodul_run(schedule.as_ptr(), schedule.len(), out.as_mut_ptr(), out.len(), answer) }
 }
 
 /// Makes one move in place and gives back the number of the refusal.

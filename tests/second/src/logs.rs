@@ -36,11 +36,6 @@ pub fn check_random(tally: &mut Tally, random: &mut Random, cases: u64) {
     }
 }
 
-fn words(answer: &JudgeAnswer) -> [u32; 7] {
-    let JudgeAnswer { answer, place, atomic, first, writes, reads, overlapped } = *answer;
-    [answer, place, atomic, first, writes, reads, overlapped]
-}
-
 fn compare(tally: &mut Tally, random: &mut Random, log: &[u8]) -> JudgeAnswer {
     let kept = log.to_vec();
     let fast = fast_judge::judge(log);
@@ -50,13 +45,17 @@ fn compare(tally: &mut Tally, random: &mut Random, log: &[u8]) -> JudgeAnswer {
     let by_every_order = if small { brute::judge(log) } else { fast };
 
     tally.cases += 1;
-    let library_agrees = answer == words(&fast) && returned == fast.answer && log == kept;
+    let library_agrees = answer == fast.words() && returned == fast.answer && log == kept;
     if by_every_order != fast || !library_agrees {
+        let by_every_order = match small {
+            true => format!("{:?}", by_every_order.words()),
+            false => "not tried".to_string(),
+        };
         let lines = [
             ("log", hex(&kept)),
             ("numbers", "answer, place, atomic, first, writes, reads, overlapped".to_string()),
-            ("second program", format!("{:?}", words(&fast))),
-            ("by every order", if small { format!("{:?}", words(&by_every_order)) } else { "not tried".to_string() }),
+            ("second program", format!("{:?}", fast.words())),
+            ("by every order", by_every_order),
             ("library       ", format!("{answer:?}, gave back {returned}")),
             ("log unchanged ", (log == kept).to_string()),
         ];

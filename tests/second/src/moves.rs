@@ -16,6 +16,7 @@ const R: usize = 18;
 const WRITER_NUMBER: usize = 16;
 
 /// Numbers at the edges of some range, also after narrowing to 8 or 16 bits.
+#[rustfmt::skip]
 const EDGES: [u32; 24] = [
     0, 1, 2, 19, 20, 23, 27, 28, 39, 40, 43, 44, 45, 255, 256, 257, 276, 299,
     65_534, 65_535, 65_536, 65_537, 1 << 31, u32::MAX,

@@ -49,16 +49,18 @@ fn check(tally: &mut Tally, random: &mut Random, schedule: &[u8], room: usize) -
     let returned = library::run(schedule, &mut library_out[span], &mut answer);
 
     tally.cases += 1;
-    let expected = [plain.answer, plain.place, plain.length];
-    let library_agrees =
-        answer == expected && returned == plain.answer && library_out == plain_out && schedule == kept;
+    let expected = plain.words();
+    let library_agrees = answer == expected
+        && returned == plain.answer
+        && library_out == plain_out
+        && schedule == kept;
     if fast != plain || fast_out != plain_out || !library_agrees {
         let lines = [
             ("schedule", hex(&kept)),
             ("room", room.to_string()),
             ("output before ", hex(&found)),
             ("second program", format!("{expected:?}, output {}", hex(&plain_out))),
-            ("second, fast  ", format!("{fast:?}, output {}", hex(&fast_out))),
+            ("second, fast  ", format!("{:?}, output {}", fast.words(), hex(&fast_out))),
             ("library       ", format!("{answer:?}, output {}", hex(&library_out))),
             ("library gave back", hex_words(&[returned])),
             ("schedule unchanged", (schedule == kept).to_string()),

@@ -42,10 +42,10 @@ fn main() -> ExitCode {
     let begun = Instant::now();
     let mut phase = |name: &str, number: u64, work: &dyn Fn(&mut Tally, &mut Random)| {
         eprintln!("second: {name}, {:.1} s so far", begun.elapsed().as_secs_f64());
-        let before = tally.cases;
+        tally.begin_phase(name);
         // Each phase has its own numbers, so one of them can change alone.
         work(&mut tally, &mut Random::new(seed.wrapping_mul(8).wrapping_add(number)));
-        println!("{name}: {} cases", tally.cases - before);
+        tally.end_phase();
     };
     phase("bench table", 0, &|tally, _| bench_table::check(tally));
     phase("every control state", 0, &moves::check_every_control_state);
