@@ -4,6 +4,7 @@ pub mod Reading
 pub mod Writing
 pub mod Back
 pub mod Walks
+pub mod Inside
 pub mod Visits
 pub mod Recorded
 pub mod Unique
