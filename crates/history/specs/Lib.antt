@@ -3,6 +3,8 @@ pub mod Events
 pub mod Operations
 pub mod Serialization
 pub mod Verdict
+-- the events that the machine itself records, with their ports and numbers;
+pub mod Numbered
 -- source document 000's legal executions, its read-write objects, and a log as one of its executions.
 pub mod Document000
 pub mod ReadWrite

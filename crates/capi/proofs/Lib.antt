@@ -1,0 +1,4 @@
+pub mod Bounds
+pub mod Fitting
+pub mod Making
+pub mod Unique

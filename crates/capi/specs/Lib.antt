@@ -1,0 +1,3 @@
+-- To be believed, both.
+pub mod Words
+pub mod Promises

@@ -1,0 +1,1 @@
+// No code: the demands stand in specs/, what is proved of them in proofs/.
