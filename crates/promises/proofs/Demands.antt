@@ -26,7 +26,7 @@ use Rattle.register.specs.Initial.{initial}
 use Rattle.replay.specs.declared.Answer as replay
 use Rattle.replay.specs.Run.{runOf, answerOf, Runs, Allowed}
 use Rattle.replay.specs.Scheduled.{Scheduled, movesIn, scheduled, eventsAlong}
-use Rattle.replay.proofs.Theorems.{AllowedRun, allowed-run, allowed-result, logFrom}
+use Rattle.replay.proofs.Theorems.{AllowedRun, allowed-run, allowed-result, logFrom, log-bound}
 use Rattle.judge.specs.declared.Answer as judge
 use Rattle.judge.specs.Promise.{Judges, JudgesRead, JudgesEvents, readLog, verdictOf}
 use Rattle.judge.proofs.Logs.{judges-log}
@@ -77,7 +77,7 @@ module _ (schedule : List ℕ) (bytes : Bytes schedule) (allowed : Allowed sched
 
   -- THE THEOREM.
   pub demand-3 : Demand3 schedule
-  demand-3 = record { passed = passed; machine = machine }
+  demand-3 = record { passed = passed; within = log-bound schedule; machine = machine }
     where
       passed : (out out′ : List ℕ) (a : replay.Answer) → Runs schedule out out′ a → a .number ≡ good-number
           → (j : judge.Answer) → Judges (take (a .length) out′) j

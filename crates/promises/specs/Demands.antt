@@ -1,6 +1,6 @@
 -- To be believed: DEMAND 3 AND THE JUDGE'S HALF OF DEMAND 2, over the promises of `run` and `judge`: what any function that meets them answers.
 -- A schedule is any list of bytes.
-use Prim.Native.Nat.{ℕ}
+use Prim.Native.Nat.{ℕ, _≤_}
 use mathlib.Core.Path.{_≡_}
 use mathlib.Core.List.{List}
 use mathlib.Core.Logic.{_↔_}
@@ -11,6 +11,8 @@ use Rattle.history.specs.Events.{Event}
 use Rattle.history.specs.Operations.{WellFormed}
 use Rattle.history.specs.Serialization.{Serialization}
 use Rattle.history.specs.Verdict.{First}
+use Rattle.fields.specs.declared.Kind.the-variants.{Log}
+use Rattle.fields.specs.Tags.{limitOf}
 use Rattle.fields.specs.Walk.{ended}
 use Rattle.fields.specs.Events.{recorded}
 use Rattle.register.specs.declared.Move.{Move}
@@ -28,6 +30,8 @@ pub record Demand3 (schedule : List ℕ) : Type 0 where
   pub passed : (out out′ : List ℕ) (a : replay.Answer) → Runs schedule out out′ a → a .number ≡ good-number
       → (j : judge.Answer) → Judges (take (a .length) out′) j
       → (j .number ≡ good-number) × (j .place ≡ 0) × (j .atomic ≡ 1) × (j .first ≡ 0)
+  -- "a log at most 65,535"
+  pub within : (out out′ : List ℕ) (a : replay.Answer) → Runs schedule out out′ a → a .length ≤ limitOf Log
   pub machine : (v : Value) (ms : List Move) → movesIn schedule ≡ ended (scheduled v ms) → Demand3Machine v ms
 
 -- Demand 2, the judge's half, of a log that is not refused and so has an initial value and events: "The judge passes a well-formed log
