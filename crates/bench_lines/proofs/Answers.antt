@@ -1,6 +1,6 @@
 -- What the promises of the run and of the judge allow, for a schedule whose run and a log whose events are known. Assumes nothing.
 use Prim.Native.Nat.{ℕ, _≤_}
-use mathlib.Core.Path.{_≡_, ap, subst, _∙_}
+use mathlib.Core.Path.{_≡_, refl, ap, sym, subst, _∙_}
 use mathlib.Core.List.{List, _++_}
 use borrow.Author.Tests.{le-ltb}
 use lib.Dec.{ltb}
@@ -44,8 +44,14 @@ pub verdict : (log : List ℕ) (es : List (Event ℕ)) (b : history.Answer) → 
     → (a : judge.Answer) → Judges log a → verdictOf a ≡ b
 verdict log es b e j a h = answer-unique 5 es (verdictOf a) b (judges log es e a h .judged) j
 
+-- The answer of that verdict.
+abbrev given : history.Answer → judge.Answer
+given b = record { number = 0; place = 0; atomic = b .atomic; first = b .first; writes = b .writes; reads = b .reads; overlapped = b .overlapped }
+
 pub judged : (log : List ℕ) (es : List (Event ℕ)) (b : history.Answer) → readLog log ≡ ended (recorded 5 es) → Judged 5 es b → Verdict log (b .atomic) (b .first)
 judged log es b e j = record {
+  answer = given b;
+  answered = subst (λ (w : Walked Recorded). JudgesRead w (given b)) (sym e) (record { number = refl; place = refl; judged = j });
   verdict = λ a h.
       let u = verdict log es b e j a h in
       let r = judges log es e a h in

@@ -19,7 +19,7 @@ p1 = record { seven-bytes = refl; same = logged schedule1 schedule1 (λ room. re
 
 p2 : P2
 unfolding answerTo found headOf knows fits bodyLength moveOf eventsOf
-p2 = record { end = _; ran = refl; read-ended = refl; returns = refl; number = refl; log = logged schedule2 log2 (λ room. refl); seventeen = refl }
+p2 = record { end = _; ran = refl; read-ended = refl; returns = refl; number = refl; moves = refl; log = logged schedule2 log2 (λ room. refl); seventeen = refl }
 
 p3 : P3
 unfolding answerTo found headOf knows fits bodyLength moveOf eventsOf
@@ -36,6 +36,7 @@ p3 = record {
   returns = refl;
   read-start = refl;
   read-number = refl;
+  moves = refl;
   log = logged schedule3 log3 (λ room. refl);
 }
 
@@ -54,6 +55,7 @@ p4 = record {
   then-read = refl;
   read-ended = refl;
   returns = refl;
+  moves = refl;
   log = logged schedule4 log4 (λ room. refl);
 }
 
@@ -68,6 +70,7 @@ p5 = record {
   read-ended = refl;
   returns = refl;
   write-open = refl;
+  moves = refl;
   log = logged schedule5 log5 (λ room. refl);
 }
 
@@ -86,6 +89,7 @@ p6 = record {
   flickered = refl;
   read-ended-again = refl;
   returns-again = refl;
+  moves = refl;
   log = logged schedule6 log6 (λ room. refl);
   atomic-1 = judged log6 logs.log6 (logs.answer 1 0 0 2 0) refl logs.p6;
 }

@@ -18,8 +18,8 @@ use Rattle.register.specs.Initial.{initial}
 use Rattle.register.specs.Move.{answerTo}
 use Rattle.replay.specs.declared.Answer as replay
 use Rattle.replay.specs.Run.{moveOf, eventsOf}
-use Rattle.bench_lines.proofs.Answers.{verdict}
-use Rattle.bench_lines.specs.Bytes.{start9, reader, schedule1, schedule2, log6, log7, log8, log9}
+use Rattle.bench_lines.proofs.Answers.{judges, verdict}
+use Rattle.bench_lines.specs.Bytes.{initial5, start9, reader, schedule1, schedule2, log6, log7, log8, log9}
 use Rattle.bench_lines.specs.WrongPrograms.{Machine, MeetsMoves, RefusesAll, DoesNothing, WritesAtOnce, ReadsAtOnce, RunProgram, MeetsRuns, InitialOnly, LogsAtOnce, JudgeProgram, MeetsJudges, AlwaysPasses, NeverPasses, NoneOverlapped, AllOverlapped, WritesOverlapped}
 
 -- Machines, at the initial state with 5.
@@ -52,29 +52,30 @@ room = replicate 20 0
 pub initial-only : (f : RunProgram) → InitialOnly f → ¬ MeetsRuns f
 unfolding answerTo found headOf knows fits bodyLength moveOf eventsOf
 initial-only f w p =
-    let e : _≡_ {A = ℕ} 7 17 = sym (w schedule2 room) ∙ ap (λ (a : replay.Answer). a .length) (p schedule2 room .answer) in
+    let n : f .answer schedule2 room .number ≡ 0 = ap (λ (a : replay.Answer). a .number) (p schedule2 room .answer) in
+    let e : _≡_ {A = ℕ} 7 17 = sym (w schedule2 room n) ∙ ap (λ (a : replay.Answer). a .length) (p schedule2 room .answer) in
     omega arith
 
 pub write-logged-at-once : (f : RunProgram) → LogsAtOnce f start9 → ¬ MeetsRuns f
 unfolding answerTo found headOf knows fits bodyLength moveOf eventsOf
 write-logged-at-once f w p =
-    let a : f .answer schedule1 room .length ≡ 7 = ap (λ (a : replay.Answer). a .length) (p schedule1 room .answer) in
-    let b : f .answer (schedule1 ++ start9) room .length ≡ 14 = ap (λ (a : replay.Answer). a .length) (p (schedule1 ++ start9) room .answer) in
-    omega (arith, w schedule1 room)
+    let n : f .answer (initial5 ++ start9) room .number ≡ 0 = ap (λ (a : replay.Answer). a .number) (p (initial5 ++ start9) room .answer) in
+    let e : _≡_ {A = ℕ} 17 14 = sym (w room n) ∙ ap (λ (a : replay.Answer). a .length) (p (initial5 ++ start9) room .answer) in
+    omega arith
 
 pub read-logged-at-once : (f : RunProgram) → LogsAtOnce f reader → ¬ MeetsRuns f
 unfolding answerTo found headOf knows fits bodyLength moveOf eventsOf
 read-logged-at-once f w p =
-    let a : f .answer schedule1 room .length ≡ 7 = ap (λ (a : replay.Answer). a .length) (p schedule1 room .answer) in
-    let b : f .answer (schedule1 ++ reader) room .length ≡ 10 = ap (λ (a : replay.Answer). a .length) (p (schedule1 ++ reader) room .answer) in
-    omega (arith, w schedule1 room)
+    let n : f .answer (initial5 ++ reader) room .number ≡ 0 = ap (λ (a : replay.Answer). a .number) (p (initial5 ++ reader) room .answer) in
+    let e : _≡_ {A = ℕ} 17 10 = sym (w room n) ∙ ap (λ (a : replay.Answer). a .length) (p (initial5 ++ reader) room .answer) in
+    omega arith
 
 -- Judges.
 pub always-passes : (f : JudgeProgram) → AlwaysPasses f → ¬ MeetsJudges f
 unfolding found headOf knows fits bodyLength eventOf
 always-passes f w p =
     let u = verdict log9 logs.log9 (logs.answer 0 1 1 1 0) refl logs.p9 (f log9) (p log9) in
-    let e : _≡_ {A = ℕ} 1 0 = sym (w log9) ∙ ap (λ (x : history.Answer). x .atomic) u in
+    let e : _≡_ {A = ℕ} 1 0 = sym (w log9 (judges log9 logs.log9 refl (f log9) (p log9) .number)) ∙ ap (λ (x : history.Answer). x .atomic) u in
     omega arith
 
 pub never-passes : (f : JudgeProgram) → NeverPasses f → ¬ MeetsJudges f

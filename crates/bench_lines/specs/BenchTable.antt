@@ -12,7 +12,9 @@ use Rattle.register.specs.Steps.{cAt}
 use Rattle.register.specs.Move.{answerTo}
 use Rattle.register.specs.Run.{Ran}
 use Rattle.replay.specs.declared.Answer as replay
+use Rattle.fields.specs.Walk.{ended}
 use Rattle.replay.specs.Run.{Runs}
+use Rattle.replay.specs.Scheduled.{movesIn, scheduled}
 use Rattle.judge.specs.declared.Answer as judge
 use Rattle.judge.specs.Promise.{Judges}
 use Rattle.bench_lines.specs.Bytes.{schedule1, schedule2, schedule3, schedule4, schedule5, schedule6, log2, log3, log4, log5, log6, log7, log8, log9, log10}
@@ -22,8 +24,10 @@ pub record Logs (schedule log : List ℕ) : Type 0 where
   pub logs : (out out′ : List ℕ) (a : replay.Answer) → length log ≤ length out → Runs schedule out out′ a
       → (a .number ≡ 0) × (a .place ≡ 0) × (a .length ≡ length log) × (take (length log) out′ ≡ log)
 
--- The judge answers 0 at 0 with this verdict.
+-- The judge answers 0 at 0 with this verdict, and there is such an answer.
 pub record Verdict (log : List ℕ) (atomic first : ℕ) : Type 0 where
+  pub answer : judge.Answer
+  pub answered : Judges log answer
   pub verdict : (a : judge.Answer) → Judges log a → (a .number ≡ 0) × (a .place ≡ 0) × (a .atomic ≡ atomic) × (a .first ≡ first)
 
 -- Moves: "R×5", "R×2", "three writer steps", "seven writer steps".
@@ -69,6 +73,7 @@ pub record P2 : Type 0 where
   pub read-ended : end .r ≡ 40
   pub returns : end .value ≡ 5
   pub number : end .numberr ≡ 1
+  pub moves : movesIn schedule2 ≡ ended (scheduled 5 R×5)
   pub log : Logs schedule2 log2
   pub seventeen : length log2 ≡ 17
 
@@ -86,6 +91,7 @@ pub record P3 : Type 0 where
   pub returns : end .value ≡ 9
   pub read-start : end .startr ≡ 2
   pub read-number : end .numberr ≡ 2
+  pub moves : movesIn schedule3 ≡ ended (scheduled 5 (WriterStart 9 ∷ W×3 ++ R×5))
   pub log : Logs schedule3 log3
 
 -- "P4 after P2, start 9 and seven writer steps: all of 20 to 27; then aw = ww = 1. Then R×5 returns 9."
@@ -102,6 +108,7 @@ pub record P4 : Type 0 where
   pub then-read : Ran 5 (R×5 ++ (WriterStart 9 ∷ W×7 ++ R×5)) end
   pub read-ended : end .r ≡ 40
   pub returns : end .value ≡ 9
+  pub moves : movesIn schedule4 ≡ ended (scheduled 5 (R×5 ++ (WriterStart 9 ∷ W×7 ++ R×5)))
   pub log : Logs schedule4 log4
 
 -- "P5 after P2, start 9, R×2: returns 5 through 40 and 44, the write open."
@@ -114,6 +121,7 @@ pub record P5 : Type 0 where
   pub read-ended : end .r ≡ 40
   pub returns : end .value ≡ 5
   pub write-open : end .q ≡ 21
+  pub moves : movesIn schedule5 ≡ ended (scheduled 5 (R×5 ++ (WriterStart 9 ∷ R×2)))
   pub log : Logs schedule5 log5
 
 -- "P6 initial 5, start 9, writer flicker 1, R×5: returns 9, number 2, c[0] still being assigned. Writer flicker 0, R×2: returns 9 again. Atomic 1."
@@ -130,6 +138,7 @@ pub record P6 : Type 0 where
   pub flickered : cAt again 0 ≡ 0
   pub read-ended-again : again .r ≡ 40
   pub returns-again : again .value ≡ 9
+  pub moves : movesIn schedule6 ≡ ended (scheduled 5 (WriterStart 9 ∷ WriterFlicker 1 ∷ R×5 ++ (WriterFlicker 0 ∷ R×2)))
   pub log : Logs schedule6 log6
   pub atomic-1 : Verdict log6 1 0
 

@@ -1,6 +1,6 @@
 -- To be believed: the wrong programs of document 01, section (c), each described by what it answers. None meets its promise
 -- (proofs/WrongPrograms.antt).
-use Prim.Native.Nat.{ℕ, _+_}
+use Prim.Native.Nat.{ℕ}
 use mathlib.Core.Path.{_≡_}
 use mathlib.Core.List.{List, _++_}
 use Rattle.register.specs.declared.State.{State}
@@ -12,6 +12,7 @@ use Rattle.replay.specs.declared.Answer as replay
 use Rattle.replay.specs.Run.{Runs}
 use Rattle.judge.specs.declared.Answer as judge
 use Rattle.judge.specs.Promise.{Judges}
+use Rattle.bench_lines.specs.Bytes.{initial5}
 
 -- A machine is any function from a state and a move to an answer; it meets the promise if each answer is one that it allows.
 abbrev pub Machine : Type 0
@@ -43,14 +44,14 @@ pub record RunProgram : Type 0 where
 abbrev pub MeetsRuns : RunProgram → Type 0
 MeetsRuns f = (schedule out : List ℕ) → Runs schedule out (f .output schedule out) (f .answer schedule out)
 
--- "a run that always writes the initial field": its log has 7 bytes, always
+-- "a run that always writes the initial field": where it answers 0, its log has 7 bytes
 abbrev pub InitialOnly : RunProgram → Type 0
-InitialOnly f = (schedule out : List ℕ) → f .answer schedule out .length ≡ 7
+InitialOnly f = (schedule out : List ℕ) → f .answer schedule out .number ≡ 0 → f .answer schedule out .length ≡ 7
 
--- "one that finishes a whole operation at step 20 or 40 and idles after": with a start, or with a reader's first step, behind a schedule its
--- log has the two fields of a whole operation more, 10 bytes
+-- "one that finishes a whole operation at step 20 or 40 and idles after": with the initial field and one step, a start or a reader's first, and
+-- where it answers 0, its log has the initial field and the two fields of a whole operation, 17 bytes
 abbrev pub LogsAtOnce : RunProgram → List ℕ → Type 0
-LogsAtOnce f step = (schedule out : List ℕ) → f .answer (schedule ++ step) out .length ≡ f .answer schedule out .length + 10
+LogsAtOnce f step = (out : List ℕ) → f .answer (initial5 ++ step) out .number ≡ 0 → f .answer (initial5 ++ step) out .length ≡ 17
 
 -- A judge is any function from a log to an answer.
 abbrev pub JudgeProgram : Type 0
@@ -59,9 +60,9 @@ JudgeProgram = List ℕ → judge.Answer
 abbrev pub MeetsJudges : JudgeProgram → Type 0
 MeetsJudges f = (log : List ℕ) → Judges log (f log)
 
--- "a judge that always passes or never does"
+-- "a judge that always passes or never does": whatever log it does not refuse it passes; it passes none
 abbrev pub AlwaysPasses : JudgeProgram → Type 0
-AlwaysPasses f = (log : List ℕ) → f log .atomic ≡ 1
+AlwaysPasses f = (log : List ℕ) → f log .number ≡ 0 → f log .atomic ≡ 1
 
 abbrev pub NeverPasses : JudgeProgram → Type 0
 NeverPasses f = (log : List ℕ) → f log .atomic ≡ 0

@@ -1,10 +1,11 @@
 -- Every promise of the C interface determines what is returned and every word lent; and a refused state is untouched.
 -- Assumes nothing.
 use mathlib.Core.Path.{_≡_, ap, sym, _∙_}
-use mathlib.Core.Bool.{Bool, true, false}
+use mathlib.Core.Bool.{Bool, true, false, _&&_}
 use mathlib.Core.List.{List, [], _∷_}
 use Prim.Native.Nat.{ℕ, zero, suc, _+_}
 use native.Mathlib.Omega.{arith}
+use lib.Dec.{leb}
 use lib.ListN.{length, getD, drop, drop-of-length-le}
 use lib.Seq.{drop-cons}
 use Rattle.terms.specs.Choice.{if_then_else_}
@@ -54,4 +55,11 @@ refused-untouched m w w′ r l p h = on (fitting w) (p .number) (p .words)
   where
     on : (b : Bool) → r ≡ (if b then answerTo (stateOf w) m .number else 9) → w′ ≡ (if b then wordsOf (answerTo (stateOf w) m .state) else w) → w′ ≡ w
     on true n x = x ∙ ap wordsOf (hands-back (stateOf w) m .state (λ e. h (n ∙ e))) ∙ words-back w l
+    on false n x = x
+
+pub flicker-untouched : (flicker : ℕ → Move) (bit : ℕ) (w w′ : List ℕ) (r : ℕ) → length w ≡ 25 → FlickersOn flicker bit w w′ r → (r ≡ 0 → ⊥) → w′ ≡ w
+flicker-untouched flicker bit w w′ r l p h = on (leb bit 255 && fitting w) (p .number) (p .words)
+  where
+    on : (b : Bool) → r ≡ (if b then answerTo (stateOf w) (flicker bit) .number else 9) → w′ ≡ (if b then wordsOf (answerTo (stateOf w) (flicker bit) .state) else w) → w′ ≡ w
+    on true n x = x ∙ ap wordsOf (hands-back (stateOf w) (flicker bit) .state (λ e. h (n ∙ e))) ∙ words-back w l
     on false n x = x

@@ -1,14 +1,12 @@
 -- To be believed: what each function of the C interface promises.
 use Prim.Native.Nat.{ℕ}
 use mathlib.Core.Path.{_≡_}
-use mathlib.Core.Bool.{Bool, true, false, not, _&&_}
+use mathlib.Core.Bool.{_&&_}
 use mathlib.Core.List.{List, [], _∷_}
 use lib.Dec.{leb}
 use Rattle.terms.specs.Choice.{if_then_else_}
 use Rattle.terms.specs.Value.{Value}
 use Rattle.terms.specs.Refusals.{out-of-range}
-use Rattle.register.specs.declared.State.{State}
-use Rattle.register.specs.declared.Moved.{Moved}
 use Rattle.register.specs.declared.Move.{Move}
 use Rattle.register.specs.declared.Move.the-variants.{WriterStart, WriterStep, WriterFlicker, ReaderStep, ReaderFlicker}
 use Rattle.register.specs.Move.{answerTo}
@@ -18,7 +16,7 @@ use Rattle.judge.specs.declared.Answer as judge
 use Rattle.judge.specs.Promise.{Judges}
 use Rattle.capi.specs.Words.{fitting, stateOf, wordsOf}
 
--- "answer, place, atomic, first, writes, reads, overlapped; returns answer[0]": the seven numbers are those of an answer that the judge's promise
+-- Refusal number, place, atomic, first, writes, reads, overlapped; answer[0] is returned: the seven numbers are those of an answer that the judge's promise
 -- allows, which is one.
 abbrev pub verdictWords : judge.Answer → List ℕ
 verdictWords a = a .number ∷ a .place ∷ a .atomic ∷ a .first ∷ a .writes ∷ a .reads ∷ a .overlapped ∷ []
@@ -29,7 +27,7 @@ pub record JudgesInto (log words : List ℕ) (r : ℕ) : Type 0 where
   pub words-are : words ≡ verdictWords answer
   pub returned : r ≡ answer .number
 
--- "answer, place, length; returns answer[0]": those of an answer that the run's promise allows, with the output afterwards.
+-- Refusal number, place, length; answer[0] is returned: those of an answer that the run's promise allows, with the output afterwards.
 abbrev pub runWords : replay.Answer → List ℕ
 runWords a = a .number ∷ a .place ∷ a .length ∷ []
 
@@ -39,7 +37,7 @@ pub record RunsInto (schedule out out′ words : List ℕ) (r : ℕ) : Type 0 wh
   pub words-are : words ≡ runWords answer
   pub returned : r ≡ answer .number
 
--- "One move in place; returns the refusal number; a refused state is untouched": the words afterwards and what is returned.
+-- One move in place; the refusal number is returned: the words afterwards and what is returned.
 pub record MakesMoveOn (m : Move) (w w′ : List ℕ) (r : ℕ) : Type 0 where
   pub number : r ≡ (if fitting w then answerTo (stateOf w) m .number else out-of-range)
   pub words : w′ ≡ (if fitting w then wordsOf (answerTo (stateOf w) m .state) else w)

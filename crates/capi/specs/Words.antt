@@ -43,7 +43,7 @@ wordsOf s =
     ∷ s .q ∷ s .aw ∷ s .cw ∷ s .startw ∷ s .numberw ∷ s .kept
     ∷ s .r ∷ s .br ∷ s .cr ∷ s .value ∷ s .startr ∷ s .numberr ∷ s .masq ∷ []
 
--- "A number that does not fit the struct's narrower field (a bit or a location above 255)"
+-- Each number of a location or a bit fits the byte that the state has for it.
 abbrev pub fitting : List ℕ → Bool
 fitting w =
     leb (word w 8) 255 && leb (word w 9) 255 && leb (word w 10) 255 && leb (word w 11) 255 && leb (word w 12) 255

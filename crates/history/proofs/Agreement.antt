@@ -1,4 +1,4 @@
--- AGREEMENT: document 01's serializations by orders and document 000's legal executions pass the same logs. Assumes nothing.
+-- AGREEMENT: document 01's serializations by orders and document 000's legal executions pass the same well-formed logs. Assumes nothing.
 use mathlib.Core.List.{List}
 use mathlib.Core.Logic.{_↔_}
 use Rattle.history.specs.Events.{Event}

@@ -1,5 +1,5 @@
--- What is proved of legal serializations: they are the choices, no total order is lost by giving orders as ranks, a prefix of a legal log is
--- legal, and the least choice is least in all of them and all of it in one. Assumes nothing.
+-- What is proved of legal serializations: there is one exactly if there is a choice; where any total order is legal, one by ranks is; a prefix of
+-- a legal log is legal; the least choice gives each read the smallest count that it has in any of them, and one of them has all of these. Assumes nothing.
 use Prim.Native.Nat.{ℕ, _≤_, _<_}
 use mathlib.Core.List.{List, _++_}
 use mathlib.Core.Bool.{Bool}

@@ -20,7 +20,7 @@ qIs s n = eqb (s .q) n
 abbrev pub rIs : State → ℕ → Bool
 rIs s n = eqb (s .r) n
 
--- r ∈ {40, 44}: no read is at work
+-- r ∈ {40, 44}: the reader is not at 41 to 43
 abbrev pub idle : State → Bool
 idle s = rIs s 40 || rIs s 44
 

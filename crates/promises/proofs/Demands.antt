@@ -1,10 +1,11 @@
 -- DEMAND 3, joined from end to end, and the judge's half of demand 2. Assumes nothing.
 use Prim.Native.Nat.{ℕ, zero, suc, _≤_}
 use mathlib.Core.Path.{_≡_, refl, ap, sym, subst, _∙_}
-use mathlib.Core.List.{List, [], _∷_, _++_}
+use mathlib.Core.List.{List}
 use mathlib.Core.Bool.{Bool, true, false}
-use mathlib.Core.Logic.{_⊎_, inl, inr, _↔_}
+use mathlib.Core.Logic.{inl, inr, _↔_}
 use native.Mathlib.Omega.{arith}
+use native.Mathlib.Decide.{ℕ-discrete}
 use borrow.Author.Tests.{ltb-false}
 use lib.Dec.{ltb}
 use lib.ListN.{length, take, drop}
@@ -18,9 +19,10 @@ use Rattle.history.specs.Operations.{WellFormed}
 use Rattle.history.specs.Serialization.{Serialization}
 use Rattle.history.specs.Verdict.{Atomic, First, Judged}
 use Rattle.history.proofs.Serializations.{take-legal}
+use Rattle.history.proofs.Unique.{first-zero}
 use Rattle.fields.specs.Walk.{Walked, ended, refused}
 use Rattle.fields.specs.Events.{Recorded, recorded, logBytes}
-use Rattle.fields.proofs.Recorded.{Bytes, Fits, EventsFit}
+use Rattle.fields.specs.Numbers.{Bytes}
 use Rattle.register.specs.declared.Move.{Move}
 use Rattle.register.specs.Initial.{initial}
 use Rattle.replay.specs.declared.Answer as replay
@@ -103,6 +105,7 @@ demand-2-judge log v es e = record { answered = answered }
   where
     answered : (j : judge.Answer) → Judges log j
         → (j .number ≡ good-number) × (j .place ≡ 0) × WellFormed es × ((j .atomic ≡ 1) ↔ Serialization v es) × ((j .atomic ≡ 0) ↔ ¬ Serialization v es) × First v es (j .first)
+        × ((j .first ≡ 0) ↔ (j .atomic ≡ 1)) × Judged v es (verdictOf j)
     answered j h =
         let k : JudgesEvents (recorded v es) j = subst (λ (w : Walked Recorded). JudgesRead w j) e h in (
           k .number,
@@ -111,6 +114,8 @@ demand-2-judge log v es e = record { answered = answered }
           (when-one (k .judged .atomic), λ s. atomic-one v es (j .atomic) s (k .judged .atomic)),
           (when-zero (k .judged .atomic), λ n. zero-when n (k .judged .atomic)),
           k .judged .first,
+          first-zero v es ℕ-discrete (verdictOf j) (k .judged),
+          k .judged,
         )
       where
         when-one : Atomic v es (j .atomic) → j .atomic ≡ 1 → Serialization v es

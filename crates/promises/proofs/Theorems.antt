@@ -1,16 +1,21 @@
--- THE THEOREMS, of the contract's own moves, over all sequences of moves of which none is refused, of any length. Schedules are a special
+-- THE THEOREMS, of the contract's own moves, over all sequences of moves of which none is refused, however many (12
+-- refuses a start with the writer's number at 65,535). Schedules are a special
 -- case. Assumes nothing.
 use mathlib.Core.Path.{_≡_}
 use mathlib.Core.List.{List}
 use mathlib.Core.Option.{some}
 use Prim.Native.Nat.{ℕ, suc, _+_}
 use native.Mathlib.Omega.{arith}
+use native.Mathlib.Decide.{ℕ-discrete}
 use lib.ListN.{getElem?}
 use Rattle.terms.specs.Value.{Value}
 use Rattle.history.specs.Events.{Event}
 use Rattle.history.specs.Operations.{endsRead}
 use Rattle.history.specs.Numbered.{withoutNumbers}
 use Rattle.history.specs.Serialization.{Serialization}
+use Rattle.history.specs.Document000.{AtomicObject}
+use Rattle.history.specs.ReadWrite.{transition}
+use Rattle.history.specs.Execution.{execution}
 use Rattle.history.proofs.Appending.{at-bound}
 use Rattle.history.proofs.Counting.{nth-below}
 use Rattle.history.proofs.Choice.{SeenIn}
@@ -74,3 +79,8 @@ module _ (v : Value) (ms : List Move) (s : State) (ran : Ran v ms s) where
     first = λ i h. seen i 1 0 h (omega arith);
     later = λ i j h. seen i (j + 2) (suc j) h (omega arith);
   }
+
+-- THE REGISTER IS ATOMIC in document 000's sense: every execution that occurs, as the events of moves of which none is refused, is legal.
+pub register-atomic : (v : Value)
+    → AtomicObject ℕ-discrete transition v (λ e. (ms : List Move) × (s : State) × Ran v ms s × (e ≡ execution (withoutNumbers (eventsAlong (initial v) ms))))
+register-atomic v e (ms, s, ran, q) = rw q (register-promise v ms s ran .legal)

@@ -1,5 +1,5 @@
 -- To be believed: DEMAND 3 AND THE JUDGE'S HALF OF DEMAND 2, over the promises of `run` and `judge`: what any function that meets them answers.
--- A schedule is any list of bytes.
+-- A schedule is any list of bytes (`Bytes`, fields/specs/Numbers.antt: the premise of the theorem).
 use Prim.Native.Nat.{ℕ, _≤_}
 use mathlib.Core.Path.{_≡_}
 use mathlib.Core.List.{List}
@@ -10,17 +10,16 @@ use Rattle.terms.specs.Refusals.{good-number}
 use Rattle.history.specs.Events.{Event}
 use Rattle.history.specs.Operations.{WellFormed}
 use Rattle.history.specs.Serialization.{Serialization}
-use Rattle.history.specs.Verdict.{First}
+use Rattle.history.specs.Verdict.{First, Judged}
 use Rattle.fields.specs.declared.Kind.the-variants.{Log}
 use Rattle.fields.specs.Tags.{limitOf}
 use Rattle.fields.specs.Walk.{ended}
-use Rattle.fields.specs.Events.{recorded}
 use Rattle.register.specs.declared.Move.{Move}
 use Rattle.replay.specs.declared.Answer as replay
 use Rattle.replay.specs.Run.{Runs}
 use Rattle.replay.specs.Scheduled.{movesIn, scheduled}
 use Rattle.judge.specs.declared.Answer as judge
-use Rattle.judge.specs.Promise.{Judges, readLog}
+use Rattle.judge.specs.Promise.{Judges, verdictOf}
 use Rattle.promises.specs.MachineDemand.{Demand3Machine}
 
 -- Demand 3, of a schedule: "the log that the machine writes is passed by the judge; a finished write has start < number, a finished read
@@ -35,7 +34,8 @@ pub record Demand3 (schedule : List ℕ) : Type 0 where
   pub machine : (v : Value) (ms : List Move) → movesIn schedule ≡ ended (scheduled v ms) → Demand3Machine v ms
 
 -- Demand 2, the judge's half, of a log that is not refused and so has an initial value and events: "The judge passes a well-formed log
--- exactly when a legal serialization of it exists; otherwise it names the first read at which none does."
+-- exactly when a legal serialization of it exists; otherwise it names the first read at which none does." The counts "belong to the judge's
+-- answer under demand 2": `judged` has them.
 pub record Demand2Judge (log : List ℕ) (v : Value) (es : List (Event Value)) : Type 0 where
   pub answered : (j : judge.Answer) → Judges log j
       → (j .number ≡ good-number) × (j .place ≡ 0)
@@ -43,3 +43,5 @@ pub record Demand2Judge (log : List ℕ) (v : Value) (es : List (Event Value)) :
       × ((j .atomic ≡ 1) ↔ Serialization v es)
       × ((j .atomic ≡ 0) ↔ ¬ Serialization v es)
       × First v es (j .first)
+      × ((j .first ≡ 0) ↔ (j .atomic ≡ 1))
+      × Judged v es (verdictOf j)

@@ -2,16 +2,14 @@
 -- number n and the place p exactly when the row of n holds at p). Assumes nothing.
 use Prim.Native.Nat.{ℕ}
 use mathlib.Core.Path.{_≡_}
-use mathlib.Core.List.{List, [], _∷_, _++_}
-use mathlib.Core.Option.{Option, none, some}
-use Rattle.terms.specs.Choice.{if_then_else_}
+use mathlib.Core.List.{List, []}
 use Rattle.terms.specs.Value.{Value}
-use Rattle.terms.specs.Refusals.{foreign-tag, out-of-turn}
+use Rattle.terms.specs.Refusals.{out-of-turn}
 use Rattle.history.specs.Events.{Event}
-use Rattle.history.specs.Operations.{write, read, Open, inTurn}
+use Rattle.history.specs.Operations.{write, read, Open}
 use Rattle.fields.specs.declared.Kind.the-variants.{Log}
 use Rattle.fields.specs.Field.{Tagged}
-use Rattle.fields.specs.Walk.{Walked, ended, Checked, on, no, whole}
+use Rattle.fields.specs.Walk.{Walked, ended, Checked, whole}
 use Rattle.fields.specs.Events.{Recorded, recorded, eventOf}
 use Rattle.judge.specs.Promise.{inTurnWith}
 use Rattle.refusal_rows.specs.Bytes.{tagByte}
