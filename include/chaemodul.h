@@ -27,7 +27,7 @@ uint32_t chaemodul_judge(const uint8_t *log, size_t log_len, uint32_t answer[7])
 
 /*
  * Runs a schedule of schedule_len bytes and writes its event log to out, which has room for out_len bytes. Returns answer[0].
- *   answer[0] refusal number, [1] its place, [2] the log's length, 0 when refused.
+ *   answer[0] refusal number, [1] its place (0 for a good run, for 7 and for 8), [2] the log's length, 0 when refused.
  * The bytes of out behind the log keep what they held; a refused run leaves all of them as found. `schedule` and `out` must not overlap.
  * Room for 65,535 bytes is always enough.
  */

@@ -1,4 +1,4 @@
--- To be believed: source document 000 (Hesselink 2002), section 2.1, sentence by sentence, for any set of ports with decidable equality.
+-- To be believed: source document 000 (Hesselink 2002), section 2.1, its definitions up to legality, for any set of ports with decidable equality.
 -- "A variable type T is a tuple T = ⟨V, Inv, Res, v₀, f⟩ where V, Inv and Res are sets, v₀ is an element of V, and f is a function
 -- f : V × Inv → V × Res": Val, Inv, Res, v₀ and f below. Finite sequences only, where the document has "finite or infinite": a log is finite.
 use Prim.Native.Nat.{ℕ, zero, suc, _<_}

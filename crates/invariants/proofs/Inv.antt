@@ -53,8 +53,8 @@ qat q n = eqb (wnum q) n
 abbrev pub rat : RLoc → ℕ → Bool
 rat r n = eqb (rnum r) n
 
-abbrev pub idle : RLoc → Bool
-idle r = rat r 40 || rat r 44
+abbrev pub at40or44 : RLoc → Bool
+at40or44 r = rat r 40 || rat r 44
 
 abbrev pub same : Data → Bool
 same d = Bool·beq (d .aw) (d .br)
@@ -118,7 +118,7 @@ module _ (q : WLoc) (r : RLoc) (d : Data) where
   Sq3 = qat q 23 ⇒ not (same d) ⇒ d .startr ≤ d .tag (d .br) (d .c (d .br))
 
   abbrev pub Tq0 : Type 0
-  Tq0 = qat q 21 ⇒ not (idle r) ⇒ d .masq < d .numberw
+  Tq0 = qat q 21 ⇒ not (at40or44 r) ⇒ d .masq < d .numberw
 
   abbrev pub Tq1 : Type 0
   Tq1 = qat q 21 ⇒ not (same d) ⇒ d .masq < d .numberw
@@ -130,13 +130,13 @@ module _ (q : WLoc) (r : RLoc) (d : Data) where
   Tq3 = qat q 21 ⇒ ((j : Bool) → d .tag (not (d .aw)) j < d .numberw)
 
   abbrev pub Uq0 : Type 0
-  Uq0 = idle r ⇒ qat q 26 ⇒ d .masq ≤ d .numberr
+  Uq0 = at40or44 r ⇒ qat q 26 ⇒ d .masq ≤ d .numberr
 
   abbrev pub Uq1 : Type 0
-  Uq1 = idle r ⇒ same d ⇒ d .masq ≤ d .numberr
+  Uq1 = at40or44 r ⇒ same d ⇒ d .masq ≤ d .numberr
 
   abbrev pub Uq2 : Type 0
-  Uq2 = idle r ⇒ same d ⇒ (qat q 26 || qat q 27) ⇒ d .numberw ≡ d .numberr
+  Uq2 = at40or44 r ⇒ same d ⇒ (qat q 26 || qat q 27) ⇒ d .numberw ≡ d .numberr
 
   abbrev pub Uq3 : Type 0
   Uq3 = rat r 43 ⇒ qat q 26 ⇒ d .masq ≤ d .tag (d .br) (d .cr)

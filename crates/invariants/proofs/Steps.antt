@@ -8,7 +8,7 @@ use native.Mathlib.Nat.{le-refl}
 use Rattle.terms.specs.Value.{Value}
 use Rattle.invariants.specs.Invariants.{_⇒_}
 use Rattle.invariants.proofs.Device.{WLoc, w20, w21, w22, w23, w24, w25, w26, w27, RLoc, r40, r41, r42, r43, r44, Data, put₂, bits, wnext, wdata, rnext, rdata, wflick, rflick}
-use Rattle.invariants.proofs.Inv.{Inv, ≐-refl, under, under₂, always, idle, same, rat, qat, Sq0, Sq1, Tq1, Tq3, Uq0, Uq1, Uq4}
+use Rattle.invariants.proofs.Inv.{Inv, ≐-refl, under, under₂, always, at40or44, same, rat, qat, Sq0, Sq1, Tq1, Tq3, Uq0, Uq1, Uq4}
 use Rattle.invariants.proofs.Tables.{not-not, either, put-same, put-not, put-row, put-back, put-le, put-grows}
 
 abbrev pub WStep : WLoc → RLoc → Data → Type 0
@@ -44,7 +44,7 @@ only26 {q = w25} P z p = absurd z
 only26 {q = w26} P z p = p
 only26 {q = w27} P z p = absurd z
 
-busy : (r : RLoc) {A B : Type 0} → (A → B) → (not (idle r) ⇒ A) → (rat r 41 || rat r 42 ⇒ B)
+busy : (r : RLoc) {A B : Type 0} → (A → B) → (not (at40or44 r) ⇒ A) → (rat r 41 || rat r 42 ⇒ B)
 busy r40 f a = tt
 busy r41 f a = f a
 busy r42 f a = f a
@@ -189,7 +189,7 @@ flicker26 r d x i = search plain
 -- at 27 masq grows: uq1, uq4
 pub keeps27 : (r : RLoc) (d : Data) → WStep w27 r d
 keeps27 r d v i =
-    let u1 : Uq1 w20 r (wdata w27 v d) = under (idle r) (under (same d) (λ h. omega arith)) (i .uq2) in
+    let u1 : Uq1 w20 r (wdata w27 v d) = under (at40or44 r) (under (same d) (λ h. omega arith)) (i .uq2) in
     let u4 : Uq4 w20 r (wdata w27 v d) = under (rat r 43) (under (same d) (λ h. omega arith)) (i .uq5) in
     search plain
 

@@ -21,8 +21,8 @@ abbrev pub rIs : State → ℕ → Bool
 rIs s n = eqb (s .r) n
 
 -- r ∈ {40, 44}: the reader is not at 41 to 43
-abbrev pub idle : State → Bool
-idle s = rIs s 40 || rIs s 44
+abbrev pub at40or44 : State → Bool
+at40or44 s = rIs s 40 || rIs s 44
 
 -- aw = br
 abbrev pub sameRow : State → Bool
@@ -108,7 +108,7 @@ Sq3 s = qIs s 23 ⇒ not (sameRow s) ⇒ s .startr ≤ tagAt s (s .br) (cAt s (s
 
 -- (Tq0) q = 21 ∧ r ∉ {40, 44} ⇒ masq < sqnw
 abbrev pub Tq0 : State → Type 0
-Tq0 s = qIs s 21 ⇒ not (idle s) ⇒ s .masq < s .numberw
+Tq0 s = qIs s 21 ⇒ not (at40or44 s) ⇒ s .masq < s .numberw
 
 -- (Tq1) q = 21 ∧ aw ≠ br ⇒ masq < sqnw
 abbrev pub Tq1 : State → Type 0
@@ -124,15 +124,15 @@ Tq3 s = qIs s 21 ⇒ ((j : ℕ) → j ≤ 1 → tagAt s (opposite (s .aw)) j < s
 
 -- (Uq0) r ∈ {40, 44} ∧ q = 26 ⇒ masq ≤ sqnr
 abbrev pub Uq0 : State → Type 0
-Uq0 s = idle s ⇒ qIs s 26 ⇒ s .masq ≤ s .numberr
+Uq0 s = at40or44 s ⇒ qIs s 26 ⇒ s .masq ≤ s .numberr
 
 -- (Uq1) r ∈ {40, 44} ∧ aw = br ⇒ masq ≤ sqnr
 abbrev pub Uq1 : State → Type 0
-Uq1 s = idle s ⇒ sameRow s ⇒ s .masq ≤ s .numberr
+Uq1 s = at40or44 s ⇒ sameRow s ⇒ s .masq ≤ s .numberr
 
 -- (Uq2) r ∈ {40, 44} ∧ aw = br ∧ q ∈ {26, 27} ⇒ sqnw = sqnr
 abbrev pub Uq2 : State → Type 0
-Uq2 s = idle s ⇒ sameRow s ⇒ (qIs s 26 || qIs s 27) ⇒ s .numberw ≡ s .numberr
+Uq2 s = at40or44 s ⇒ sameRow s ⇒ (qIs s 26 || qIs s 27) ⇒ s .numberw ≡ s .numberr
 
 -- (Uq3) r = 43 ∧ q = 26 ⇒ masq ≤ tag[br, cr]
 abbrev pub Uq3 : State → Type 0

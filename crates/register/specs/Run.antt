@@ -37,6 +37,6 @@ given (ReaderStep ∷ ms) = given ms
 given (ReaderFlicker b ∷ ms) = given ms
 
 -- The value that the write of a number gave, out of all values, the initial one first: number 1 is the initial value's, and the first
--- write has number 2. Number 0, the reader's before its first read, counts as 1 (1 - 1 and 0 - 1 are both 0): its value is the initial one.
+-- write has number 2. Number 0, the reader's until its first step 43, counts as 1 (1 - 1 and 0 - 1 are both 0): its value is the initial one.
 abbrev pub valueOf : List Value → ℕ → Value
 valueOf values number = getD values (number - 1) noValue

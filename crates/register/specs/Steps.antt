@@ -1,5 +1,5 @@
 -- To be believed: the numbered steps (document 01, "The numbered steps"; 001, section 3) and the flickers (001, formula 2), each in the order
--- of its text. `s ∣q≔ 22` is the state s with q at 22 (Set.antt). The struct has lists of 4, 4 and 2.
+-- of its text. `s ∣q≔ 22` is the state s with q at 22 (Set.antt). The struct has arrays of 4, 4 and 2.
 use Prim.Native.Nat.{ℕ, _+_, _-_, _*_, max}
 use lib.Dec.{eqb}
 use lib.ListN.{set, getD}
