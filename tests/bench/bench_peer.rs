@@ -2,10 +2,15 @@
 //! side by side on the same inputs: nanoseconds per byte of input, and how
 //! many times as long the library takes. Each number is the least of several
 //! measurements, taken in turn.
+//!
+//! For a count of instructions, which another program makes, `shapes` lists
+//! the inputs and `repeat SIDE SHAPE TIMES` only makes the calls.
 
 mod inputs;
 
+use std::env;
 use std::hint::black_box;
+use std::process::exit;
 use std::time::Instant;
 
 use inputs::{Shape, LOGS, SCHEDULES};
@@ -101,20 +106,64 @@ fn run_shape(shape: &Shape, size: usize) {
     );
 }
 
-fn main() {
+/// A well-formed log has at most 65,534 bytes; 32 KiB is a schedule's limit.
+const LOG_SIZES: [usize; 4] = [8 << 10, 16 << 10, 32 << 10, 65_534];
+const SCHEDULE_SIZES: [usize; 3] = [8 << 10, 16 << 10, 32 << 10];
+
+fn times() {
     println!("nanoseconds per byte of input; ratio: the library's time over the second program's");
     heading("judge");
     for shape in &LOGS {
-        // A well-formed log has at most 65,534 bytes.
-        for size in [8 << 10, 16 << 10, 32 << 10, 65_534] {
+        for size in LOG_SIZES {
             judge_shape(shape, size);
         }
     }
     heading("run");
     for shape in &SCHEDULES {
-        // 32 KiB is a schedule's limit.
-        for size in [8 << 10, 16 << 10, 32 << 10] {
+        for size in SCHEDULE_SIZES {
             run_shape(shape, size);
         }
+    }
+}
+
+/// A line for each shape, logs first: its number, its bytes at the greatest size, its name.
+fn list_shapes() {
+    let logs = LOGS.iter().map(|shape| (shape, 65_534, "judge"));
+    let schedules = SCHEDULES.iter().map(|shape| (shape, 32 << 10, "run"));
+    for (number, (shape, size, what)) in logs.chain(schedules).enumerate() {
+        println!("{number} {} {what}: {}", (shape.make)(size).len(), shape.name);
+    }
+}
+
+/// Makes the calls alone: one side, one shape at its greatest size, so many times.
+fn repeat(side: &str, number: usize, times: usize) {
+    let library = side == "library";
+    let mut out = vec![0; 1 << 16];
+    let input = match LOGS.get(number) {
+        Some(shape) => (shape.make)(65_534),
+        None => (SCHEDULES[number - LOGS.len()].make)(32 << 10),
+    };
+    for _ in 0..times {
+        let input = black_box(&input[..]);
+        black_box(match (number < LOGS.len(), library) {
+            (true, true) => library_judge(input)[0],
+            (true, false) => peer_judge(input)[0],
+            (false, true) => library_run(input, &mut out)[0],
+            (false, false) => peer_run(input, &mut out)[0],
+        });
+    }
+}
+
+fn main() {
+    let words: Vec<String> = env::args().skip(1).collect();
+    let words: Vec<&str> = words.iter().map(String::as_str).collect();
+    match words[..] {
+        [] => times(),
+        ["shapes"] => list_shapes(),
+        ["repeat", side @ ("library" | "second"), number, times] => match (number.parse(), times.parse()) {
+            (Ok(number), Ok(times)) if number < LOGS.len() + SCHEDULES.len() => repeat(side, number, times),
+            _ => exit(2),
+        },
+        _ => exit(2),
     }
 }
