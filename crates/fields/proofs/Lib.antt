@@ -3,6 +3,7 @@ pub mod Numbers
 pub mod Reading
 pub mod Writing
 pub mod Back
+pub mod Headers
 pub mod Walks
 pub mod Inside
 pub mod Visits

@@ -7,3 +7,5 @@ pub mod Walk
 pub mod Events
 pub mod Promises
 pub mod Place
+-- A device, not to be believed: how a tag is read by its header.
+pub mod Header
