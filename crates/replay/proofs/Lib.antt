@@ -1,14 +1,18 @@
 -- What is proved stands in Theorems. Before it, in this order, what its proofs and those of the functions use: how to show something of a walk,
--- a schedule's fields, one turn of the code, both passes, what one field comes to, that the log grows, the first pass, the second, one move, and
--- what holds along every run.
+-- a schedule's fields, what a field says, what the run's check of it comes to, both passes, that the log grows, one move, what holds along
+-- every run; the first pass, its machine's steps, its turn and its loop; the second pass in the same way.
 pub mod Induction
 pub mod Fields
 pub mod Turns
-pub mod Passes
 pub mod Checks
+pub mod Passes
 pub mod Grows
-pub mod Measuring
-pub mod Writing
 pub mod Moves
 pub mod Along
+pub mod Leading
+pub mod Asking
+pub mod Measuring
+pub mod Stepping
+pub mod Making
+pub mod Writing
 pub mod Theorems
