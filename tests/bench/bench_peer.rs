@@ -4,7 +4,7 @@
 //! measurements, taken in turn.
 //!
 //! For a count of instructions, which another program makes, `shapes` lists
-//! the inputs and `repeat SIDE SHAPE TIMES` only makes the calls.
+//! the inputs and `repeat SIDE SHAPE SIZE TIMES` only makes the calls.
 
 mod inputs;
 
@@ -126,26 +126,32 @@ fn times() {
     }
 }
 
-/// A line for each shape, logs first: its number, its bytes at the greatest size, its name.
-fn list_shapes() {
-    let logs = LOGS.iter().map(|shape| (shape, 65_534, "judge"));
-    let schedules = SCHEDULES.iter().map(|shape| (shape, 32 << 10, "run"));
-    for (number, (shape, size, what)) in logs.chain(schedules).enumerate() {
-        println!("{number} {} {what}: {}", (shape.make)(size).len(), shape.name);
+/// The input of a shape by its number, logs first.
+fn numbered(number: usize, size: usize) -> Vec<u8> {
+    match LOGS.get(number) {
+        Some(shape) => (shape.make)(size),
+        None => (SCHEDULES[number - LOGS.len()].make)(size),
     }
 }
 
-/// Makes the calls alone: one side, one shape at its greatest size, so many times.
-fn repeat(side: &str, number: usize, times: usize) {
-    let library = side == "library";
+/// A line for each shape at its least and its greatest size: its number, the size, its bytes, its name.
+fn list_shapes() {
+    let logs = LOGS.iter().map(|shape| (shape, 65_534, "judge"));
+    let schedules = SCHEDULES.iter().map(|shape| (shape, 32 << 10, "run"));
+    for (number, (shape, greatest, what)) in logs.chain(schedules).enumerate() {
+        for size in [8 << 10, greatest] {
+            println!("{number} {size} {} {what}: {}", numbered(number, size).len(), shape.name);
+        }
+    }
+}
+
+/// Makes the calls alone: one side, one shape of a size, so many times.
+fn repeat(side: &str, number: usize, size: usize, times: usize) {
     let mut out = vec![0; 1 << 16];
-    let input = match LOGS.get(number) {
-        Some(shape) => (shape.make)(65_534),
-        None => (SCHEDULES[number - LOGS.len()].make)(32 << 10),
-    };
+    let input = numbered(number, size);
     for _ in 0..times {
         let input = black_box(&input[..]);
-        black_box(match (number < LOGS.len(), library) {
+        black_box(match (number < LOGS.len(), side == "library") {
             (true, true) => library_judge(input)[0],
             (true, false) => peer_judge(input)[0],
             (false, true) => library_run(input, &mut out)[0],
@@ -160,10 +166,14 @@ fn main() {
     match words[..] {
         [] => times(),
         ["shapes"] => list_shapes(),
-        ["repeat", side @ ("library" | "second"), number, times] => match (number.parse(), times.parse()) {
-            (Ok(number), Ok(times)) if number < LOGS.len() + SCHEDULES.len() => repeat(side, number, times),
-            _ => exit(2),
-        },
+        ["repeat", side @ ("library" | "second"), number, size, times] => {
+            match (number.parse(), size.parse(), times.parse()) {
+                (Ok(number), Ok(size), Ok(times)) if number < LOGS.len() + SCHEDULES.len() => {
+                    repeat(side, number, size, times)
+                }
+                _ => exit(2),
+            }
+        }
         _ => exit(2),
     }
 }
