@@ -1,7 +1,6 @@
 -- "A refused move hands back the state it was given", with place 0; and every answer's place is 0.
 -- Assumes nothing.
 use mathlib.Core.Path.{◌≡◌, refl}
-use Prim.Native.Nat.{ℕ}
 use lib.Dec.{eqb}
 use Rattle.terms.proofs.Tests.{if_case}
 use Rattle.register.specs.declared.State.{State}

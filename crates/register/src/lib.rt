@@ -1,5 +1,7 @@
 // The step machine of the register: its state, the five kinds of move, and the answer to one move with its refusals.
 // specs/Initial.antt, specs/Steps.antt and specs/Move.antt say what is right; every step here stands in the order of its text there.
+#![tactic(auto)]
+
 ghost use Rattle.std.specs.Prelude.{◌≡◌, max};
 ghost use Rattle.register.specs.Initial.{IsInitial};
 ghost use Rattle.register.specs.Steps as steps;
@@ -10,7 +12,7 @@ ghost use Rattle.register.specs.Device.{InBounds, RowInBounds};
 use terms::{CLASH, GOOD, MISFIT, NUMBER_SPENT, OUT_OF_RANGE, Value};
 
 // The state. buf[i,j] and its tag stand at 2i + j.
-#[derive(Drop)]
+#[derive(Clone, Copy)]
 pub struct State {
     pub bufs: [Value; 4],
     pub tags: [u32; 4],
@@ -33,7 +35,7 @@ pub struct State {
 }
 
 // One of five kinds of move.
-#[derive(Drop)]
+#[derive(Clone, Copy)]
 pub enum Move {
     WriterStart(Value),
     WriterStep,
@@ -43,7 +45,7 @@ pub enum Move {
 }
 
 // The answer to a move: its number, its place (0 for every single move) and the next state.
-#[derive(Drop)]
+#[derive(Clone, Copy)]
 pub struct Moved {
     pub number: u32,
     pub place: usize,
