@@ -1,4 +1,6 @@
 // The C interface (include/chaemodul.h): each function takes plain numbers and lent arrays, and hands on to the proved crates.
+#![tactic(auto)]
+
 ghost use Rattle.std.specs.Prelude.{◌≡◌};
 ghost use Rattle.capi.specs.Words.{Fitting, fitting, state_of_words, words_of_state};
 ghost use Rattle.capi.specs.Promises.{StartsWrite, StepsWriter, FlickersWriter, StepsReader, FlickersReader, MakesMoveOn, JudgesInto, RunsInto};

@@ -1,1 +1,2 @@
 // No code: the definitions about logs stand in specs/, what is proved of them in proofs/.
+#![tactic(auto)]

@@ -12,6 +12,8 @@ use Rattle.invariants.proofs.Decode.{bit_of}
 same_number : (a b : Bool) → a ≐ b → num a ≡ num b
 same_number true true h = refl
 same_number false false h = refl
+same_number false true h = elim h [ ]
+same_number true false h = elim h [ ]
 
 -- what holds of every bit holds of every number up to 1
 pub at_bit : (P : ℕ → Type 0) → ((i : Bool) → P (num i)) → (i : ℕ) → i ≤ 1 → P i

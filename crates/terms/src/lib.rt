@@ -1,5 +1,6 @@
 // The words that every crate shares: the value that the register holds, and document 01's refusal numbers by name.
 // specs/Value.antt and specs/Refusals.antt say the same to the proofs.
+#![tactic(auto)]
 
 // A value of the register: 32 bits.
 pub type Value = u32;
