@@ -16,13 +16,7 @@ use Rattle.invariants.proofs.Inv.{Inv}
 use Rattle.invariants.proofs.Tables.{put_case}
 use Rattle.invariants.proofs.Link.{num, small, conc, move, Answered, get_table}
 use Rattle.invariants.proofs.FromDevice.{at_bits}
-
-pub record Holds (d : Data) (values : List Value) : Type 0 where
-  pub count : length values ≡ d.numberw
-  pub kept : d.kept ≡ value_of values d.numberw
-  pub value : d.value ≡ value_of values d.numberr
-  pub bufs : (i j : Bool) → d.buf i j ≡ value_of values (d.tag i j)
-  pub tag_from : (i j : Bool) → 1 ≤ d.tag i j
+use Rattle.invariants.proofs.HeldDevice.{Holds}
 
 -- from the contract's state, and to it
 pub to_holds : (q : WLoc) (r : RLoc) (d : Data) (vs : List Value) → Held (conc q r d) vs → Holds d vs
@@ -48,6 +42,9 @@ from_holds q r d vs i h = record {
 value_old : (vs : List Value) (v : Value) (n : ℕ) → n ≤ length vs → 0 < length vs → value_of (vs ++ (v ∷ [])) n ≡ value_of vs n
 value_old vs v n a b = get_or-append vs (v ∷ []) no_value (n - 1) (omega arith)
 
+value_lasts : (vs : List Value) (v x : Value) (n : ℕ) → n ≤ length vs → 0 < length vs → x ≡ value_of vs n → x ≡ value_of (vs ++ (v ∷ [])) n
+value_lasts vs v x n a b h = h ∙ sym (value_old vs v n a b)
+
 value_new : (vs : List Value) (v : Value) (n : ℕ) → n ≡ suc (length vs) → value_of (vs ++ (v ∷ [])) n ≡ v
 value_new vs v n e = let k : n - 1 ≡ length vs = omega arith in rw k (get_or-append_seam vs v [] no_value)
 
@@ -60,7 +57,7 @@ holds_start v r d vs i h =
     record {
       count = rw length-append (omega arith);
       kept = sym new;
-      value = h.value ∙ sym (value_old vs v d.numberr (omega arith) some);
+      value = value_lasts vs v d.value d.numberr (omega arith) some h.value;
       bufs = put_case (λ a b x t. x ≡ value_of (vs ++ (v ∷ [])) t) d.buf d.tag d.aw j v n (sym new)
           (λ a b. h.bufs a b ∙ sym (value_old vs v (d.tag a b) (omega (arith, i.kq4 a b)) some));
       tag_from = put_case (λ a b x t. 1 ≤ t) d.buf d.tag d.aw j v n (omega arith) h.tag_from;

@@ -9,6 +9,7 @@ pub mod Link
 pub mod Decode
 pub mod FromDevice
 pub mod ToDevice
+pub mod HeldDevice
 pub mod HeldKept
 pub mod Preserved
 pub mod Start

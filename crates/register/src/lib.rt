@@ -333,6 +333,7 @@ impl State {
     }
 
     // One move: the answer with the next state, or with a refusal and the state that was given.
+    #[tactic(auto, using(crate::proofs::InBounds::in_bounds), unfolding(crate::specs::Move::answer_to))]
     pub fn moved(mut self, m: Move) -> Moved
         ensures { MakesMove self m result }
     {
