@@ -6,7 +6,7 @@ use borrow.Author.Tests.{le-ltb}
 use lib.Dec.{ltb}
 use lib.ListN.{length, take, drop}
 use lib.Seq.{take-append_seam}
-use Rattle.terms.specs.Choice.{if◌then◌else◌}
+use Rattle.std.specs.Prelude.{if◌then◌else◌}
 use Rattle.history.specs.Events.{Event}
 use Rattle.history.specs.Verdict.{Judged}
 use Rattle.history.specs.Verdict as history

@@ -6,7 +6,7 @@ use mathlib.Core.Bool.{Bool, true, false}
 use native.Mathlib.Omega.{arith}
 use lib.Dec.{ltb}
 use lib.ListN.{length}
-use Rattle.terms.specs.Choice.{if◌then◌else◌}
+use Rattle.std.specs.Prelude.{if◌then◌else◌}
 use Rattle.terms.specs.Refusals.{no_room}
 use Rattle.fields.specs.declared.Kind.TheVariants.{Schedule}
 use Rattle.fields.specs.Walk.{Walked, ended, refused}

@@ -10,7 +10,7 @@ use borrow.Author.Tests.{ltb-false}
 use lib.Dec.{ltb}
 use lib.ListN.{length, take, drop}
 use lib.Seq.{take-append_seam}
-use Rattle.terms.specs.Choice.{if◌then◌else◌}
+use Rattle.std.specs.Prelude.{if◌then◌else◌}
 use Rattle.terms.specs.Value.{Value}
 use Rattle.terms.specs.Refusals.{good_number, no_room}
 use Rattle.history.specs.Events.{Event}

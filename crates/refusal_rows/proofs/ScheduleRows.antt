@@ -8,7 +8,7 @@ use native.Mathlib.Omega.{arith}
 use lib.Dec.{eqb, ltb}
 use lib.ListN.{length}
 use borrow.Author.Tests.{eqb-false, ne_eqb, ltb-true, lt-ltb}
-use Rattle.terms.specs.Choice.{if◌then◌else◌}
+use Rattle.std.specs.Prelude.{if◌then◌else◌}
 use Rattle.terms.specs.Refusals.{good_number, misfit, no_room}
 use Rattle.fields.specs.declared.Kind.TheVariants.{Schedule}
 use Rattle.fields.specs.Walk.{ended, refused, Checked, on, no}

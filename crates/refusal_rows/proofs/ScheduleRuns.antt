@@ -9,7 +9,7 @@ use native.Mathlib.Omega.{arith}
 use lib.Dec.{eqb}
 use lib.ListN.{length}
 use borrow.Author.Tests.{eqb-true, eq-eqb}
-use Rattle.terms.specs.Choice.{if◌then◌else◌}
+use Rattle.std.specs.Prelude.{if◌then◌else◌}
 use Rattle.terms.specs.Value.{Value}
 use Rattle.terms.specs.Refusals.{good_number, misfit}
 use Rattle.fields.specs.Walk.{on, no}

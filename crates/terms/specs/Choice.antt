@@ -1,7 +1,2 @@
--- To be believed: a choice by a test.
-use Rattle.std.specs.Prelude.{Bool, true, false}
-
-infixr 10 if◌then◌else◌
-abbrev pub if◌then◌else◌ : {A : Type 0} → Bool → A → A → A
-if true then a else b = a
-if false then a else b = b
+-- To be believed: a choice by a test, the library's own.
+pub use Rattle.std.specs.Prelude.{if◌then◌else◌}
