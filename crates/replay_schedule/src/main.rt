@@ -1,35 +1,42 @@
 // Runs the schedule on standard input: the log goes to standard output, and `answer N offset P length L` to standard error. A refused
 // schedule writes nothing to standard output. Where the input cannot be read there is no answer, but a message on standard error.
+#![tactic(auto)]
+
 ghost use Rattle.std.specs.Prelude.{◌≤◌, length};
 
-use libc::{STDERR_FILENO, STDIN_FILENO, STDOUT_FILENO};
+use std::io;
+use std::io::Read;
 
 // What came of reading: whether a read failed, and how many bytes came.
-#[derive(Drop)]
+#[derive(Clone, Copy)]
 struct Input {
     failed: bool,
     count: usize,
 }
 
-// Reads standard input once.
-fn read_once(part: &mut [u8]) -> Input
+// Reads once.
+fn read_once(reader: &mut impl Read, part: &mut [u8]) -> Input
     ensures { result.count ≤ length part.new }
 {
-    let got = libc::read(STDIN_FILENO, part);
-    let count = io::count(got, part);
-    Input {
-        failed: got < 0,
-        count,
+    match reader.read(part) {
+        Ok(count) => Input {
+            failed: false,
+            count,
+        },
+        Err(_) => Input {
+            failed: true,
+            count: 0,
+        },
     }
 }
 
-// Reads standard input up to its end, or until the buffer is full.
-fn read_input(buffer: &mut [u8]) -> Input
+// Reads up to the input's end, or until the buffer is full.
+fn read_input(reader: &mut impl Read, buffer: &mut [u8]) -> Input
     ensures { result.count ≤ length buffer.new }
 {
     let mut count = 0;
     while count < buffer.len() {
-        let more = read_once(&mut buffer[count..]);
+        let more = read_once(reader, &mut buffer[count..]);
         count += more.count;
         if more.failed | (more.count == 0) {
             return Input {
@@ -44,42 +51,34 @@ fn read_input(buffer: &mut [u8]) -> Input
     }
 }
 
-// A text and a number, to standard error.
-fn say(text: &[u8], n: u64) {
-    io::write_all(STDERR_FILENO, text);
-    io::print_decimal(STDERR_FILENO, n);
-}
-
 // The first n bytes, to standard output.
-fn show(bytes: &[u8], n: usize) {
+fn show(rt: &impl Print, bytes: &[u8], n: usize) -> io::Result<()> {
     if n <= bytes.len() {
-        io::write_all(STDOUT_FILENO, &bytes[0..n]);
+        rt.write_all(&bytes[..n])?;
     }
+    Ok(())
 }
 
 // Runs the first n bytes. The log has at most 65,531 bytes, for which there is room.
-fn replayed(bytes: &[u8], n: usize) {
+fn replayed(rt: &(impl Print + Eprint), bytes: &[u8], n: usize) -> io::Result<()> {
     if bytes.len() < n {
-        return;
+        return Ok(());
     }
-    let mut space = io::large_buffer();
-    let out: &mut [u8] = &mut space;
-    let answer = replay::run(&bytes[0..n], out);
-    show(out, answer.length);
-    say(b"answer ", answer.number as u64);
-    say(b" offset ", answer.place as u64);
-    say(b" length ", answer.length as u64);
-    io::write_all(STDERR_FILENO, b"\n");
+    let mut out = [0u8; 65536];
+    let answer = replay::run(&bytes[..n], &mut out);
+    show(rt, &out, answer.length)?;
+    eprintln!(rt;
+        "answer {} offset {} length {}",
+        answer.number, answer.place, answer.length
+    )
 }
 
 // The buffer has a byte more than a schedule may have, so that one over the limit is seen.
-fn main() {
-    let mut space = [0u8; 32769];
-    let buffer: &mut [u8] = &mut space;
-    let input = read_input(buffer);
+fn main(rt: HostRuntime) -> io::Result<()> {
+    let mut buffer = [0u8; 32769];
+    let input = read_input(&mut rt.stdin(), &mut buffer);
     if input.failed {
-        io::write_all(STDERR_FILENO, b"standard input cannot be read\n");
-        return;
+        return eprintln!(rt; "standard input cannot be read");
     }
-    replayed(buffer, input.count);
+    replayed(&rt, &buffer, input.count)
 }
