@@ -1,5 +1,5 @@
 // Judges the log on standard input and writes document 01's three lines on standard output, for a refused log too. Where the input cannot
-// be read there is no log to judge: a message goes to standard error, and nothing to standard output.
+// be read there is no log to judge: a message goes to standard error, and nothing to standard output. A write that fails ends the program.
 #![tactic(auto)]
 
 ghost use Rattle.judge_log.specs.Input.{Within};

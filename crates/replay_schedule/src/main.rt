@@ -1,5 +1,6 @@
 // Runs the schedule on standard input: the log goes to standard output, and `answer N offset P length L` to standard error. A refused
-// schedule writes nothing to standard output. Where the input cannot be read there is no answer, but a message on standard error.
+// schedule writes nothing to standard output. Where the input cannot be read there is no answer, but a message on standard error. A write that
+// fails ends the program.
 #![tactic(auto)]
 
 ghost use Rattle.std.specs.Prelude.{◌≤◌, length};
