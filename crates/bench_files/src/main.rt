@@ -100,7 +100,7 @@ fn heads(rt: &impl Print) -> io::Result<()> {
     with_room(rt, "a byte more", &over)
 }
 
-// Refusals 1 to 4 behind the head, and their order.
+// Refusals 1 and 2 behind the head, and their order.
 fn fields(rt: &impl Print) -> io::Result<()> {
     with_room(
         rt,
@@ -131,7 +131,11 @@ fn fields(rt: &impl Print) -> io::Result<()> {
         rt,
         "an unknown tag before its cut body",
         b"\x01\x00\x04\x00\x00\x00\x05\x09\xff\xff",
-    )?;
+    )
+}
+
+// Refusals 3 and 4 behind the head, and 1 before 4.
+fn lengths(rt: &impl Print) -> io::Result<()> {
     with_room(
         rt,
         "a wrong length",
@@ -154,8 +158,8 @@ fn fields(rt: &impl Print) -> io::Result<()> {
     )
 }
 
-// Refusals 5 and 6 behind the head, and their order.
-fn moves(rt: &impl Print) -> io::Result<()> {
+// Refusal 5 behind the head, before 6.
+fn bits(rt: &impl Print) -> io::Result<()> {
     with_room(
         rt,
         "flicker body 2 before its location, writer",
@@ -165,7 +169,11 @@ fn moves(rt: &impl Print) -> io::Result<()> {
         rt,
         "flicker body 2 before its location, reader",
         b"\x01\x00\x04\x00\x00\x00\x05\x06\x00\x01\x02",
-    )?;
+    )
+}
+
+// Refusal 6 behind the head, and a refusal behind good fields.
+fn moves(rt: &impl Print) -> io::Result<()> {
     with_room(
         rt,
         "initial then tag 3",
@@ -240,6 +248,8 @@ fn main(rt: HostRuntime) -> io::Result<()> {
     logs(&rt)?;
     heads(&rt)?;
     fields(&rt)?;
+    lengths(&rt)?;
+    bits(&rt)?;
     moves(&rt)?;
     rooms(&rt)
 }

@@ -1,7 +1,6 @@
 -- The bench table is proved: the runs by computing the definitions over the bytes, the verdicts by the theory of histories. Assumes nothing.
 use mathlib.Core.Path.{refl}
 use mathlib.Core.List.{[]}
-use Rattle.history.specs.Events.{write_ended, read_ended}
 use Rattle.history.proofs.BenchLogs as logs
 use Rattle.fields.specs.Tags.{body_length_of, fits, knows}
 use Rattle.fields.specs.Field.{found}

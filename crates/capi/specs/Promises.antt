@@ -1,6 +1,5 @@
 -- To be believed: what each function of the C interface promises.
-use Rattle.std.specs.Prelude.{ℕ, ◌≡◌, ◌&&◌, List, [], ◌∷◌, leb}
-use Rattle.std.specs.Prelude.{if◌then◌else◌}
+use Rattle.std.specs.Prelude.{ℕ, ◌≡◌, ◌&&◌, List, [], ◌∷◌, leb, if◌then◌else◌}
 use Rattle.terms.specs.Value.{Value}
 use Rattle.terms.specs.Refusals.{out_of_range}
 use Rattle.register.specs.declared.Move.{Move}

@@ -25,9 +25,9 @@ infix 4 ◌≐◌
 abbrev pub ◌≐◌ : Bool → Bool → Type 0
 a ≐ b = T (beq a b)
 
-pub ≐-refl : (a : Bool) → a ≐ a
-≐-refl true = tt
-≐-refl false = tt
+pub ≐_refl : (a : Bool) → a ≐ a
+≐_refl true = tt
+≐_refl false = tt
 
 -- the locations' numbers
 abbrev pub wnum : WLoc → ℕ

@@ -8,7 +8,7 @@ use native.Mathlib.Nat.{le_refl}
 use Rattle.terms.specs.Value.{Value}
 use Rattle.invariants.specs.Invariants.{◌⇒◌}
 use Rattle.invariants.proofs.Device.{WLoc, w20, w21, w22, w23, w24, w25, w26, w27, RLoc, r40, r41, r42, r43, r44, Data, put₂, bits, wnext, wdata, rnext, rdata, wflick, rflick}
-use Rattle.invariants.proofs.Inv.{Inv, ≐-refl, under, under₂, always, at40or44, same, rat, qat, Sq0, Sq1, Tq1, Tq3, Uq0, Uq1, Uq4}
+use Rattle.invariants.proofs.Inv.{Inv, ≐_refl, under, under₂, always, at40or44, same, rat, qat, Sq0, Sq1, Tq1, Tq3, Uq0, Uq1, Uq4}
 use Rattle.invariants.proofs.Tables.{not_not, either, put_same, put_not, put_row, put_back, put_le, put_grows}
 
 abbrev pub WStep : WLoc → RLoc → Data → Type 0
@@ -23,7 +23,7 @@ RStep q r d = Inv q r d → Inv q (rnext r d) (rdata r d)
 abbrev pub RFlick : WLoc → RLoc → Data → Type 0
 RFlick q r d = (x : Bool) → Inv q r d → Inv q r (rflick r x d)
 
-ruleset plain = (arith, always, ≐-refl)
+ruleset plain = (arith, always, ≐_refl)
 
 -- WHAT THE INVARIANTS GIVE, at a location that is not known
 -- a test that fails everywhere but at one location

@@ -4,7 +4,7 @@ use mathlib.Core.Bool.{Bool, true, false, not, ◌||◌, beq}
 use native.Mathlib.Omega.{arith}
 use Rattle.invariants.specs.Invariants.{Invariants}
 use Rattle.invariants.proofs.Device.{WLoc, RLoc, Data}
-use Rattle.invariants.proofs.Inv.{Inv, under, ◌≐◌, ≐-refl, qat, rat, same}
+use Rattle.invariants.proofs.Inv.{Inv, under, ◌≐◌, ≐_refl, qat, rat, same}
 use Rattle.invariants.proofs.Link.{num, small, conc, link, get_table}
 
 same_bit : (a b : Bool) → num a ≡ num b → a ≡ b
@@ -14,7 +14,7 @@ same_bit false true h = absurd (omega arith)
 same_bit false false h = refl
 
 same_test : (a b : Bool) → num a ≡ num b → a ≐ b
-same_test a b h = rw (same_bit a b h) (≐-refl b)
+same_test a b h = rw (same_bit a b h) (≐_refl b)
 
 pub to_device : (q : WLoc) (r : RLoc) (d : Data) → Invariants (conc q r d) → Inv q r d
 to_device q r d i = record {

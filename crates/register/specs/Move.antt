@@ -1,6 +1,5 @@
 -- To be believed: one move with its refusals (document 01, "A move is one of five kinds" to "A clash is", and "For a single move: 9, 10, 6, 12").
-use Rattle.std.specs.Prelude.{ℕ, ◌≡◌, Bool, true, ◌||◌, ◌&&◌, not, List, [], ◌∷◌, leb, eqb}
-use Rattle.std.specs.Prelude.{if◌then◌else◌}
+use Rattle.std.specs.Prelude.{ℕ, ◌≡◌, Bool, true, ◌||◌, ◌&&◌, not, List, [], ◌∷◌, leb, eqb, if◌then◌else◌}
 use Rattle.terms.specs.Value.{Value}
 use Rattle.terms.specs.Refusals.{good_number, misfit, out_of_range, clash, number_spent}
 use Rattle.register.specs.declared.State.{State}

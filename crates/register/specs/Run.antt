@@ -1,6 +1,5 @@
 -- To be believed: moves made one after another, of which none is refused, and the values that they write.
-use Rattle.std.specs.Prelude.{ℕ, ◌-◌, ◌≡◌, List, [], ◌∷◌, eqb, get_or}
-use Rattle.std.specs.Prelude.{if◌then◌else◌}
+use Rattle.std.specs.Prelude.{ℕ, ◌-◌, ◌≡◌, List, [], ◌∷◌, eqb, get_or, if◌then◌else◌}
 use Rattle.terms.specs.Value.{Value, no_value}
 use Rattle.terms.specs.Refusals.{good_number}
 use Rattle.register.specs.declared.State.{State}

@@ -1,7 +1,6 @@
 -- To be believed: the numbered steps (document 01, "The numbered steps"; 001, section 3) and the flickers (001, formula 2), each in the order
 -- of its text. `s ∣q≔ 22` is the state s with q at 22 (Set.antt). The struct has arrays of 4, 4 and 2.
-use Rattle.std.specs.Prelude.{ℕ, ◌+◌, ◌-◌, ◌*◌, max, eqb, set, get_or}
-use Rattle.std.specs.Prelude.{if◌then◌else◌}
+use Rattle.std.specs.Prelude.{ℕ, ◌+◌, ◌-◌, ◌*◌, max, eqb, set, get_or, if◌then◌else◌}
 use Rattle.terms.specs.Value.{Value, no_value}
 use Rattle.register.specs.declared.State.{State}
 use Rattle.register.specs.Set.{◌∣bufs≔◌, ◌∣tags≔◌, ◌∣ww≔◌, ◌∣rr≔◌, ◌∣c≔◌, ◌∣q≔◌, ◌∣aw≔◌, ◌∣cw≔◌, ◌∣startw≔◌, ◌∣numberw≔◌, ◌∣kept≔◌, ◌∣r≔◌, ◌∣br≔◌, ◌∣cr≔◌, ◌∣value≔◌, ◌∣startr≔◌, ◌∣numberr≔◌, ◌∣masq≔◌}
