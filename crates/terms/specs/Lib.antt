@@ -2,3 +2,4 @@
 pub mod Choice
 pub mod Value
 pub mod Refusals
+pub mod Answers

@@ -1,5 +1,7 @@
 -- To be believed: the refusal numbers (document 01, "Refusal numbers"), each by name, in the table's order.
 use Rattle.std.specs.Prelude.{ℕ}
+use Rattle.terms.specs.declared.Refusal.{Refusal}
+use Rattle.terms.specs.declared.Refusal.TheVariants.{Cut, ForeignTag, WrongLength, NotFirst, NoBit, Misfit, TooLong, NoRoom, OutOfRange, Clash, OutOfTurn, NumberSpent}
 
 -- "0 is good"
 abbrev pub good_number : ℕ
@@ -52,3 +54,18 @@ out_of_turn = 11
 -- single move: step 20 with the writer's number at 65,535
 abbrev pub number_spent : ℕ
 number_spent = 12
+
+-- The number of each refusal that the code names.
+abbrev pub refusal_number : Refusal → ℕ
+refusal_number Cut = cut
+refusal_number ForeignTag = foreign_tag
+refusal_number WrongLength = wrong_length
+refusal_number NotFirst = not_first
+refusal_number NoBit = no_bit
+refusal_number Misfit = misfit
+refusal_number TooLong = too_long
+refusal_number NoRoom = no_room
+refusal_number OutOfRange = out_of_range
+refusal_number Clash = clash
+refusal_number OutOfTurn = out_of_turn
+refusal_number NumberSpent = number_spent
