@@ -12,7 +12,7 @@ use borrow.Author.Tests.{eqb-true, eqb-false, eq-eqb, ne_eqb, leb-true, leb-fals
 use Rattle.terms.specs.Refusals.{cut, foreign_tag, wrong_length}
 use Rattle.fields.specs.declared.Kind.{Kind}
 use Rattle.fields.specs.declared.Kind.TheVariants.{Schedule, Log}
-use Rattle.fields.specs.declared.Found.TheVariants.{Field, Refused}
+use Rattle.fields.specs.Field.{Field, Refused}
 use Rattle.fields.specs.Tags.{body_length_of, knows, fits}
 use Rattle.fields.specs.Field.{found}
 use Rattle.fields.proofs.Reading.{found_short, found_foreign, found_length, found_cut, found_whole}

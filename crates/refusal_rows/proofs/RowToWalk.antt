@@ -10,8 +10,8 @@ use Rattle.terms.specs.Value.{Value}
 use Rattle.terms.specs.Refusals.{not_first, no_bit, too_long}
 use Rattle.fields.specs.declared.Kind.{Kind}
 use Rattle.fields.specs.declared.Kind.TheVariants.{Schedule, Log}
-use Rattle.fields.specs.declared.Found.TheVariants.{Refused}
-use Rattle.fields.specs.declared.Head.TheVariants.{Begins}
+use Rattle.fields.specs.Field.{Refused}
+use Rattle.fields.specs.Walk.{Begins}
 use Rattle.fields.specs.Tags.{body_length_of, limit_of}
 use Rattle.fields.specs.Field.{Tagged, value_in}
 use Rattle.fields.specs.Walk.{Walked, ended, refused, Checked, no, checked, whole, head_of_file}
