@@ -7,5 +7,6 @@ pub mod Walk
 pub mod Events
 pub mod Promises
 pub mod Place
+pub mod Steps
 -- A device, not to be believed: how a tag is read by its header.
 pub mod Header
