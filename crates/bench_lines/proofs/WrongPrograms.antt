@@ -12,10 +12,9 @@ use Rattle.fields.specs.Field.{found}
 use Rattle.fields.specs.Walk.{head_of_file}
 use Rattle.fields.specs.Events.{recorded_event}
 use Rattle.register.specs.declared.State.{State}
-use Rattle.register.specs.declared.Moved.{Moved}
 use Rattle.register.specs.declared.Move.TheVariants.{WriterStart, ReaderStep}
 use Rattle.register.specs.Initial.{initial}
-use Rattle.register.specs.Move.{answer_to}
+use Rattle.register.specs.Move.{Moved, answer_to}
 use Rattle.replay.specs.declared.Answer as replay
 use Rattle.replay.specs.Run.{move_of, events_of}
 use Rattle.bench_lines.proofs.Answers.{judges, verdict}

@@ -1,6 +1,7 @@
 -- To be believed: the wrong programs of document 01, section (c), each described by what it answers. None meets its promise
 -- (proofs/WrongPrograms.antt).
 use Rattle.std.specs.Prelude.{ℕ, ◌≡◌, List, ◌++◌}
+use Rattle.terms.specs.Answers.{number_in}
 use Rattle.register.specs.declared.State.{State}
 use Rattle.register.specs.declared.Moved.{Moved}
 use Rattle.register.specs.declared.Move.{Move}
@@ -21,7 +22,7 @@ MeetsMoves f = (s : State) (m : Move) → MakesMove s m (f s m)
 
 -- "a machine that refuses all moves"
 abbrev pub RefusesAll : Machine → Type 0
-RefusesAll f = (s : State) (m : Move) → ¬ ((f s m).number ≡ 0)
+RefusesAll f = (s : State) (m : Move) → ¬ (number_in (f s m).answer ≡ 0)
 
 -- "and one that does nothing"
 abbrev pub DoesNothing : Machine → Type 0

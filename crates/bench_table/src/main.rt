@@ -38,7 +38,8 @@ enum NumberField {
 
 // The number that a move is answered.
 fn answer(rt: &impl Print, s: State, m: Move) -> io::Result<()> {
-    print!(rt; " {}", s.moved(m).number)
+    let a = s.moved(m);
+    print!(rt; " {}", terms::number(&a.answer))
 }
 
 // The numbers that a move of each of the five kinds is answered, the flickers with a bit each.
@@ -251,7 +252,11 @@ fn shown(rt: &impl Print, s: State, m: Move) -> io::Result<State> {
     let [c0, c1] = t.c;
     print!(rt;
         "answer {} place {}, q {}, r {}, aw {}",
-        a.number, a.place, t.q, t.r, t.aw
+        terms::number(&a.answer),
+        terms::place(&a.answer),
+        t.q,
+        t.r,
+        t.aw
     )?;
     print!(rt; ", ww {}, rr {}, c {c0} {c1}, masq {}", t.ww, t.rr, t.masq)?;
     print!(rt; ", writer's start {}, number {}", t.startw, t.numberw)?;

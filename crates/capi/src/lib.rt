@@ -123,7 +123,7 @@ fn make(words: &mut [u32; 25], m: Move) -> u32
     let a = state_of(w).moved(m);
     let next = a.state;
     *words = words_of(next);
-    a.number
+    terms::number(&a.answer)
 }
 
 // A writer's start with its value.

@@ -6,12 +6,11 @@ use lib.Dec.{eqb}
 use borrow.Author.Tests.{eqb-true, eqb-false}
 use Rattle.terms.specs.Value.{Value}
 use Rattle.register.specs.declared.State.{State}
-use Rattle.register.specs.declared.Moved.{Moved}
 use Rattle.register.specs.declared.Move.{Move}
 use Rattle.register.specs.declared.Move.TheVariants.{WriterStart, WriterStep, WriterFlicker, ReaderStep, ReaderFlicker}
 use Rattle.register.specs.Initial.{initial}
 use Rattle.std.specs.Prelude.{if◌then◌else◌}
-use Rattle.register.specs.Move.{good, answer_to}
+use Rattle.register.specs.Move.{Moved, good, answer_to}
 use Rattle.register.specs.Run.{and_then, made, Ran, given}
 
 -- Where an answer and what follows it come to a good answer, the first answer is good, and what follows comes to the same.

@@ -5,10 +5,9 @@ use mathlib.Core.List.{List, [], ◌∷◌, ◌++◌, append-nil, append_assoc}
 use Prim.Native.Nat.{◌≤◌, ◌<◌}
 use Rattle.terms.specs.Value.{Value}
 use Rattle.register.specs.declared.State.{State}
-use Rattle.register.specs.declared.Moved.{Moved}
 use Rattle.register.specs.declared.Move.{Move}
 use Rattle.register.specs.Initial.{initial}
-use Rattle.register.specs.Move.{good, answer_to, is_in_range, is_a_clash}
+use Rattle.register.specs.Move.{Moved, good, answer_to, is_in_range, is_a_clash}
 use Rattle.register.specs.Run.{made, Ran, given}
 use Rattle.invariants.specs.Invariants.{Invariants}
 use Rattle.register.specs.Shaped.{Shaped}

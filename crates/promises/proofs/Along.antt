@@ -11,11 +11,10 @@ use Rattle.history.specs.Events as plain
 use Rattle.history.specs.Numbered.{AtPort, without_number, without_numbers}
 use Rattle.history.proofs.Written.{written, written_by}
 use Rattle.register.specs.declared.State.{State}
-use Rattle.register.specs.declared.Moved.{Moved}
 use Rattle.register.specs.declared.Move.{Move}
 use Rattle.register.specs.declared.Move.TheVariants.{WriterStart, WriterStep, WriterFlicker, ReaderStep, ReaderFlicker}
 use Rattle.register.specs.Initial.{initial}
-use Rattle.register.specs.Move.{good, answer_to}
+use Rattle.register.specs.Move.{Moved, good, answer_to}
 use Rattle.register.specs.Run.{made, Ran, given}
 use Rattle.register.proofs.Cases.{accepted}
 use Rattle.invariants.specs.Held.{Held}

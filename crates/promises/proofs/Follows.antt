@@ -17,10 +17,9 @@ use Rattle.history.proofs.Choice.{Holds}
 use Rattle.history.proofs.Least.{put}
 use Rattle.history.proofs.Written.{written, holds_at}
 use Rattle.register.specs.declared.State.{State}
-use Rattle.register.specs.declared.Moved.{Moved}
 use Rattle.register.specs.declared.Move.{Move}
 use Rattle.register.specs.declared.Move.TheVariants.{WriterStart, WriterStep, WriterFlicker, ReaderStep, ReaderFlicker}
-use Rattle.register.specs.Move.{step_of, start_rows, writer_rows, writer_flicker_rows, reader_rows, reader_flicker_rows}
+use Rattle.register.specs.Move.{Moved, step_of, start_rows, writer_rows, writer_flicker_rows, reader_rows, reader_flicker_rows}
 use Rattle.register.proofs.Cases.{rows_case, ◌⨾◌}
 use Rattle.invariants.specs.Held.{Held}
 use Rattle.invariants.proofs.Preserved.{Lawful}

@@ -10,10 +10,9 @@ use lib.Dec.{eqb, leb}
 use borrow.Author.Tests.{eqb-true, eqb-false, not-true, not-false}
 use Rattle.terms.specs.Refusals.{good_number, misfit, out_of_range, clash, number_spent}
 use Rattle.register.specs.declared.State.{State}
-use Rattle.register.specs.declared.Moved.{Moved}
 use Rattle.register.specs.declared.Move.{Move}
 use Rattle.register.specs.declared.Move.TheVariants.{WriterStart, WriterStep, WriterFlicker, ReaderStep, ReaderFlicker}
-use Rattle.register.specs.Move.{Row, refused, step_of, answer_to, is_in_range, is_a_clash, bit_carried, start_rows, writer_rows, writer_flicker_rows, reader_rows, reader_flicker_rows, answer_at}
+use Rattle.register.specs.Move.{Moved, Row, refused, step_of, answer_to, is_in_range, is_a_clash, bit_carried, start_rows, writer_rows, writer_flicker_rows, reader_rows, reader_flicker_rows, answer_at}
 use Rattle.terms.proofs.Tests.{if_case}
 use Rattle.register.proofs.Cases.{Rows, ◌⨾◌}
 use Rattle.refusal_rows.specs.MoveRows.{OutOfRange, q_below, q_above, r_below, r_above, Clash, Misfit, NumberSpent, MoveRow, row_9, row_10, row_6, row_12, no_row}

@@ -12,9 +12,8 @@ use Rattle.std.specs.Prelude.{if◌then◌else◌}
 use Rattle.terms.specs.Refusals.{good_number, misfit, no_room}
 use Rattle.fields.specs.declared.Kind.TheVariants.{Schedule}
 use Rattle.fields.specs.Walk.{ended, refused, Checked, on, no}
-use Rattle.register.specs.declared.Moved.{Moved}
 use Rattle.register.specs.declared.Move.{Move}
-use Rattle.register.specs.Move.{answer_to}
+use Rattle.register.specs.Move.{Moved, answer_to}
 use Rattle.replay.specs.Run.{Run, start, step, move_of, after_move, advanced, finished, run_of, log_of}
 use Rattle.refusal_rows.specs.MoveRows.{MoveRow}
 use Rattle.refusal_rows.specs.Bytes.{tag_byte, field_at}

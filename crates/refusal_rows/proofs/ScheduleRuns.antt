@@ -14,10 +14,9 @@ use Rattle.terms.specs.Value.{Value}
 use Rattle.terms.specs.Refusals.{good_number, misfit}
 use Rattle.fields.specs.Walk.{on, no}
 use Rattle.register.specs.declared.State.{State}
-use Rattle.register.specs.declared.Moved.{Moved}
 use Rattle.register.specs.declared.Move.{Move}
 use Rattle.register.specs.declared.Move.TheVariants.{WriterStart, WriterStep, WriterFlicker, ReaderStep, ReaderFlicker}
-use Rattle.register.specs.Move.{good, answer_to, bit_carried}
+use Rattle.register.specs.Move.{Moved, good, answer_to, bit_carried}
 use Rattle.register.specs.Run as moving
 use Rattle.register.specs.Run.{Ran, given}
 use Rattle.invariants.proofs.Theorems.{ran_append, ran_in_range, ran_no_clash, ran_held}

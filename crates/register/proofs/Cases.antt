@@ -11,9 +11,8 @@ use Rattle.std.specs.Prelude.{if◌then◌else◌}
 use Rattle.terms.specs.Refusals.{misfit, out_of_range, clash}
 use Rattle.terms.proofs.Tests.{both, if_case}
 use Rattle.register.specs.declared.State.{State}
-use Rattle.register.specs.declared.Moved.{Moved}
 use Rattle.register.specs.declared.Move.{Move}
-use Rattle.register.specs.Move.{Row, answer_at, refused, step_of, answer_to, is_in_range, is_a_clash, bit_carried}
+use Rattle.register.specs.Move.{Moved, Row, answer_at, refused, step_of, answer_to, is_in_range, is_a_clash, bit_carried}
 
 -- a fact of a row, and those of the rows after it
 infixr 8 ◌⨾◌

@@ -8,12 +8,11 @@ use lib.Dec.{eqb}
 use lib.Seq.{set-set}
 use borrow.Author.Tests.{le-leb}
 use Rattle.register.specs.declared.State.{State}
-use Rattle.register.specs.declared.Moved.{Moved}
 use Rattle.register.specs.declared.Move.{Move}
 use Rattle.register.specs.declared.Move.TheVariants.{WriterFlicker, ReaderFlicker}
 use Rattle.register.specs.Set.{◌∣c≔◌}
 use Rattle.register.specs.Steps.{opposite, flicker21, flicker24, flicker26, flicker41}
-use Rattle.register.specs.Move.{good, answer_to, step_of, is_in_range, is_a_clash, bit_carried}
+use Rattle.register.specs.Move.{Moved, good, answer_to, step_of, is_in_range, is_a_clash, bit_carried}
 use Rattle.register.specs.Run.{made}
 use Rattle.register.proofs.Stays.{stays}
 

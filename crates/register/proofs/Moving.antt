@@ -1,4 +1,4 @@
--- A device for `State::moved`: a state that passed the test of the ranges has what the steps rest on.
+-- A device for `State::next`: a state that passed the test of the ranges has what the steps rest on.
 use Rattle.std.proofs.Common.{◌≡◌, sym, ◌∙◌, Bool, true, ◌&&◌}
 use Rattle.register.specs.declared.State.{State}
 use Rattle.register.specs.Device.{InBounds}

@@ -4,10 +4,9 @@ use mathlib.Core.Path.{◌≡◌, refl}
 use lib.Dec.{eqb}
 use Rattle.terms.proofs.Tests.{if_case}
 use Rattle.register.specs.declared.State.{State}
-use Rattle.register.specs.declared.Moved.{Moved}
 use Rattle.register.specs.declared.Move.{Move}
 use Rattle.register.specs.declared.Move.TheVariants.{WriterStart, WriterStep, WriterFlicker, ReaderStep, ReaderFlicker}
-use Rattle.register.specs.Move.{good, step_of, answer_to, start_rows, writer_rows, writer_flicker_rows, reader_rows, reader_flicker_rows}
+use Rattle.register.specs.Move.{Moved, good, step_of, answer_to, start_rows, writer_rows, writer_flicker_rows, reader_rows, reader_flicker_rows}
 use Rattle.register.proofs.Cases.{rows_case, answer_case, ◌⨾◌}
 
 module _ (s : State) where

@@ -12,13 +12,12 @@ use lib.ListN.{length-set, get_or, set}
 use Rattle.terms.specs.Value.{Value}
 use Rattle.terms.proofs.Tests.{if_case}
 use Rattle.register.specs.declared.State.{State}
-use Rattle.register.specs.declared.Moved.{Moved}
 use Rattle.register.specs.declared.Move.{Move}
 use Rattle.register.specs.declared.Move.TheVariants.{WriterStart, WriterStep, WriterFlicker, ReaderStep, ReaderFlicker}
 use Rattle.register.specs.Initial.{initial}
 use Rattle.register.specs.Shaped.{Lengths, Shaped}
 use Rattle.register.specs.Steps.{tag_at}
-use Rattle.register.specs.Move.{step_of, answer_to, is_in_range, bit_carried, start_rows, writer_rows, writer_flicker_rows, reader_rows, reader_flicker_rows}
+use Rattle.register.specs.Move.{Moved, step_of, answer_to, is_in_range, bit_carried, start_rows, writer_rows, writer_flicker_rows, reader_rows, reader_flicker_rows}
 use Rattle.register.proofs.Cases.{rows_case, answer_case, ◌⨾◌}
 use Rattle.register.proofs.Range.{Bounds, bounds, in_range}
 use Rattle.register.proofs.InBounds.{picked}

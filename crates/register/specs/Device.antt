@@ -1,7 +1,10 @@
 -- A device, not to be believed: what the private functions of a step rest on. `State::moved` shows it from its test of the ranges.
-use Rattle.std.specs.Prelude.{ℕ, ◌≤◌}
+use Rattle.std.specs.Prelude.{ℕ, ◌≤◌, Result, Ok, Err}
+use Rattle.terms.specs.declared.Refusal.{Refusal}
+use Rattle.terms.specs.Refusals.{refusal_number}
 use Rattle.register.specs.declared.State.{State}
 use Rattle.register.specs.Steps.{opposite, c_at}
+use Rattle.register.specs.Move.{Moved, good, refused}
 
 -- a row of the buffers, with its c[i] a bit
 pub record RowInBounds (s : State) (i : ℕ) : Type 0 where
@@ -19,3 +22,8 @@ pub record InBounds (s : State) : Type 0 where
   pub c_aw : c_at s s.aw ≤ 1
   pub c_other : c_at s (opposite s.aw) ≤ 1
   pub numberw : s.numberw ≤ 65535
+
+-- what a step's result answers: the next state, or a refusal and the state that was given
+abbrev pub answer_in : State → Result State Refusal → Moved
+answer_in s (Ok t) = good t
+answer_in s (Err e) = refused (refusal_number e) s

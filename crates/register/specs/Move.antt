@@ -2,11 +2,18 @@
 use Rattle.std.specs.Prelude.{ℕ, ◌≡◌, Bool, true, ◌||◌, ◌&&◌, not, List, [], ◌∷◌, leb, eqb, if◌then◌else◌}
 use Rattle.terms.specs.Value.{Value}
 use Rattle.terms.specs.Refusals.{good_number, misfit, out_of_range, clash, number_spent}
+use Rattle.terms.specs.Answers.{number_in, place_in}
 use Rattle.register.specs.declared.State.{State}
-use Rattle.register.specs.declared.Moved.{Moved}
+use Rattle.register.specs.declared.Moved as code
 use Rattle.register.specs.declared.Move.{Move}
 use Rattle.register.specs.declared.Move.TheVariants.{WriterStart, WriterStep, WriterFlicker, ReaderStep, ReaderFlicker}
 use Rattle.register.specs.Steps.{opposite, c_at, tag_at, step20, step21, step22, step23, step24, step25, step26, step27, step40, step41, step42, step43, step44, flicker21, flicker24, flicker26, flicker41}
+
+-- The answer to a move, in document 01's numbers, and the next state.
+pub record Moved : Type 0 where
+  pub number : ℕ
+  pub place : ℕ
+  pub state : State
 
 -- "Every answer has a number (0 is good) and a place: .. 0 for .. single moves."
 abbrev pub good : State → Moved
@@ -111,6 +118,10 @@ answer_to s m =
     if is_a_clash s then refused clash s else
     step_of m s
 
+-- What the code answers, in document 01's numbers.
+abbrev pub answered : code.Moved → Moved
+answered a = record { number = number_in a.answer; place = place_in a.answer; state = a.state }
+
 -- What `State::moved` promises.
-abbrev pub MakesMove : State → Move → Moved → Type 0
-MakesMove s m a = a ≡ answer_to s m
+abbrev pub MakesMove : State → Move → code.Moved → Type 0
+MakesMove s m a = answered a ≡ answer_to s m

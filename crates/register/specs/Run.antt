@@ -3,11 +3,10 @@ use Rattle.std.specs.Prelude.{ℕ, ◌-◌, ◌≡◌, List, [], ◌∷◌, eqb,
 use Rattle.terms.specs.Value.{Value, no_value}
 use Rattle.terms.specs.Refusals.{good_number}
 use Rattle.register.specs.declared.State.{State}
-use Rattle.register.specs.declared.Moved.{Moved}
 use Rattle.register.specs.declared.Move.{Move}
 use Rattle.register.specs.declared.Move.TheVariants.{WriterStart, WriterStep, WriterFlicker, ReaderStep, ReaderFlicker}
 use Rattle.register.specs.Initial.{initial}
-use Rattle.register.specs.Move.{good, answer_to}
+use Rattle.register.specs.Move.{Moved, good, answer_to}
 
 -- An answer, and what follows if it is good.
 abbrev pub and_then : Moved → (State → Moved) → Moved

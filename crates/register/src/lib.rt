@@ -5,11 +5,10 @@
 ghost use Rattle.std.specs.Prelude.{◌≡◌, max};
 ghost use Rattle.register.specs.Initial.{IsInitial};
 ghost use Rattle.register.specs.Steps as steps;
-ghost use Rattle.register.specs.Move.{MakesMove, answer_at, bit_carried, is_in_range, is_a_clash, reader_flicker_rows, reader_rows, start_rows, step_of, would_write_row, writer_flicker_rows, writer_rows};
-ghost use Rattle.register.specs.Move as answers;
-ghost use Rattle.register.specs.Device.{InBounds, RowInBounds};
+ghost use Rattle.register.specs.Move.{MakesMove, answer_at, answer_to, bit_carried, is_in_range, is_a_clash, reader_flicker_rows, reader_rows, start_rows, step_of, would_write_row, writer_flicker_rows, writer_rows};
+ghost use Rattle.register.specs.Device.{InBounds, RowInBounds, answer_in};
 
-use terms::{CLASH, GOOD, MISFIT, NUMBER_SPENT, OUT_OF_RANGE, Value};
+use terms::{Refusal, Refused, Value};
 
 // The state. buf[i,j] and its tag stand at 2i + j.
 #[derive(Clone, Copy)]
@@ -44,11 +43,10 @@ pub enum Move {
     ReaderFlicker(u8),
 }
 
-// The answer to a move: its number, its place (0 for every single move) and the next state.
+// The answer to a move, its place 0 for every single move, and the next state.
 #[derive(Clone, Copy)]
 pub struct Moved {
-    pub number: u32,
-    pub place: usize,
+    pub answer: Result<(), Refused>,
     pub state: State,
 }
 
@@ -96,28 +94,6 @@ impl State {
             startr: 0,
             numberr: 0,
             masq: 1,
-        }
-    }
-
-    // A refusal: the state that was given, with a number.
-    fn refused(self, number: u32) -> Moved
-        ensures { result ≡ answers.refused number self }
-    {
-        Moved {
-            number,
-            place: 0,
-            state: self,
-        }
-    }
-
-    // A good answer: the next state.
-    fn good(self) -> Moved
-        ensures { result ≡ answers.good self }
-    {
-        Moved {
-            number: GOOD,
-            place: 0,
-            state: self,
         }
     }
 
@@ -179,16 +155,16 @@ impl State {
     }
 
     // A writer's start: step 20, the beginning of a write.
-    fn start(mut self, v: Value) -> Moved
+    fn start(mut self, v: Value) -> Result<State, Refusal>
         requires { InBounds self }
-        ensures { result ≡ answer_at self.q (start_rows v self) self }
+        ensures { answer_in self result ≡ answer_at self.q (start_rows v self) self }
     {
         let q = self.q;
         match q {
-            0..=19 | 28..=255 => return self.refused(OUT_OF_RANGE),
+            0..=19 | 28..=255 => return Err(Refusal::OutOfRange),
             20 => {
                 if self.numberw == 65535 {
-                    return self.refused(NUMBER_SPENT);
+                    return Err(Refusal::NumberSpent);
                 }
                 self.startw = self.masq;
                 self.numberw = self.numberw + 1;
@@ -197,22 +173,22 @@ impl State {
                 self = self.stored(row, v);
                 self.q = 21;
             }
-            _ => return self.refused(MISFIT),
+            _ => return Err(Refusal::Misfit),
         }
-        self.good()
+        Ok(self)
     }
 
     // Another writer step: 21 to 27.
-    fn writer(mut self) -> Moved
+    fn writer(mut self) -> Result<State, Refusal>
         requires { InBounds self }
-        ensures { result ≡ answer_at self.q (writer_rows self) self }
+        ensures { answer_in self result ≡ answer_at self.q (writer_rows self) self }
     {
         let q = self.q;
         let row = self.aw as usize;
         let other = 1 - row;
         match q {
-            0..=19 | 28..=255 => return self.refused(OUT_OF_RANGE),
-            20 => return self.refused(MISFIT),
+            0..=19 | 28..=255 => return Err(Refusal::OutOfRange),
+            20 => return Err(Refusal::Misfit),
             21 => {
                 self.c[row] = self.cw;
                 self.q = 22;
@@ -243,35 +219,35 @@ impl State {
                 self.q = 20;
             }
         }
-        self.good()
+        Ok(self)
     }
 
     // A writer flicker: the bit being assigned at 21, 24 or 26 is set, and nothing else.
-    fn writer_flicker(mut self, b: u8) -> Moved
+    fn writer_flicker(mut self, b: u8) -> Result<State, Refusal>
         requires { InBounds self }
-        ensures { result ≡ answer_at self.q (writer_flicker_rows b self) self }
+        ensures { answer_in self result ≡ answer_at self.q (writer_flicker_rows b self) self }
     {
         let q = self.q;
         let row = self.aw as usize;
         let other = 1 - row;
         match q {
-            0..=19 | 28..=255 => return self.refused(OUT_OF_RANGE),
+            0..=19 | 28..=255 => return Err(Refusal::OutOfRange),
             21 => self.c[row] = b,
             24 => self.c[other] = b,
             26 => self.ww = b,
-            _ => return self.refused(MISFIT),
+            _ => return Err(Refusal::Misfit),
         }
-        self.good()
+        Ok(self)
     }
 
     // A reader step: 40 to 44.
-    fn reader(mut self) -> Moved
+    fn reader(mut self) -> Result<State, Refusal>
         requires { InBounds self }
-        ensures { result ≡ answer_at self.r (reader_rows self) self }
+        ensures { answer_in self result ≡ answer_at self.r (reader_rows self) self }
     {
         let r = self.r;
         match r {
-            0..=39 | 45..=255 => return self.refused(OUT_OF_RANGE),
+            0..=39 | 45..=255 => return Err(Refusal::OutOfRange),
             40 => {
                 self.startr = self.masq;
                 if self.br == self.ww {
@@ -301,27 +277,27 @@ impl State {
                 self.r = 40;
             }
         }
-        self.good()
+        Ok(self)
     }
 
     // A reader flicker: the bit being assigned at 41 is set, and nothing else.
-    fn reader_flicker(mut self, b: u8) -> Moved
+    fn reader_flicker(mut self, b: u8) -> Result<State, Refusal>
         requires { InBounds self }
-        ensures { result ≡ answer_at self.r (reader_flicker_rows b self) self }
+        ensures { answer_in self result ≡ answer_at self.r (reader_flicker_rows b self) self }
     {
         let r = self.r;
         match r {
-            0..=39 | 45..=255 => return self.refused(OUT_OF_RANGE),
+            0..=39 | 45..=255 => return Err(Refusal::OutOfRange),
             41 => self.rr = b,
-            _ => return self.refused(MISFIT),
+            _ => return Err(Refusal::Misfit),
         }
-        self.good()
+        Ok(self)
     }
 
     // The step or the flicker of a move, or the refusal of one that does not fit.
-    fn stepped(mut self, m: Move) -> Moved
+    fn stepped(self, m: Move) -> Result<State, Refusal>
         requires { InBounds self }
-        ensures { result ≡ step_of m self }
+        ensures { answer_in self result ≡ step_of m self }
     {
         match m {
             Move::WriterStart(v) => self.start(v),
@@ -332,17 +308,34 @@ impl State {
         }
     }
 
-    // One move: the answer with the next state, or with a refusal and the state that was given.
+    // The next state, or why the move is refused.
     #[tactic(auto, using(crate::proofs::InBounds::in_bounds), unfolding(crate::specs::Move::answer_to))]
+    fn next(self, m: Move) -> Result<State, Refusal>
+        ensures { answer_in self result ≡ answer_to self m }
+    {
+        if !(self.in_range() & (carried_bit(m) <= 1)) {
+            return Err(Refusal::OutOfRange);
+        }
+        if self.is_clash() {
+            return Err(Refusal::Clash);
+        }
+        self.stepped(m)
+    }
+
+    // One move: the answer with the next state, or with a refusal and the state that was given.
     pub fn moved(mut self, m: Move) -> Moved
         ensures { MakesMove self m result }
     {
-        if !(self.in_range() & (carried_bit(m) <= 1)) {
-            return self.refused(OUT_OF_RANGE);
+        let answer = match self.next(m) {
+            Ok(next) => {
+                self = next;
+                Ok(())
+            }
+            Err(refusal) => Err(refusal.at(0)),
+        };
+        Moved {
+            answer,
+            state: self,
         }
-        if self.is_clash() {
-            return self.refused(CLASH);
-        }
-        self.stepped(m)
     }
 }
