@@ -13,7 +13,7 @@ use Rattle.register.specs.declared.Move.{Move}
 use Rattle.register.specs.Move.{answer_to}
 use Rattle.register.proofs.Refused.{hands_back}
 use Rattle.capi.specs.Words.{fitting, state_of_words, words_of_state}
-use Rattle.judge.specs.declared.Answer.{Answer as Verdict}
+use Rattle.judge.specs.Promise.{Answer as Verdict}
 use Rattle.judge.proofs.Unique as judge
 use Rattle.replay.specs.declared.Answer.{Answer as Ran}
 use Rattle.replay.proofs.Theorems as replay
@@ -21,7 +21,7 @@ use Rattle.capi.specs.Promises.{JudgesInto, RunsInto, verdict_words, run_words, 
 
 pub judge_unique : (log x y : List ℕ) (a b : ℕ) → JudgesInto log x a → JudgesInto log y b → (x ≡ y) × (a ≡ b)
 judge_unique log x y a b p q =
-    let e = judge.judge_unique log p.answer q.answer p.judges q.judges in
+    let e = judge.answer_unique log p.answer q.answer p.judges q.judges in
     (p.words_are ∙ ap verdict_words e ∙ sym q.words_are, p.returned ∙ ap (λ (z : Verdict). z.number) e ∙ sym q.returned)
 
 pub run_unique : (schedule out x y v w : List ℕ) (a b : ℕ) → RunsInto schedule out x v a → RunsInto schedule out y w b → (x ≡ y) × (v ≡ w) × (a ≡ b)

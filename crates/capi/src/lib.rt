@@ -13,17 +13,22 @@ use terms::OUT_OF_RANGE;
 pub extern "C" fn chaemodul_judge(log: &[u8], answer: &mut [u32; 7]) -> u32
     ensures { JudgesInto log.now answer.new result }
 {
-    let a = judge::judge(log);
-    *answer = [
-        a.number,
-        a.place as u32,
-        a.atomic,
-        a.first,
-        a.writes,
-        a.reads,
-        a.overlapped,
-    ];
-    a.number
+    let judged = judge::judge(log);
+    let number = terms::number(&judged);
+    let place = terms::place(&judged) as u32;
+    *answer = match judged {
+        Ok(verdict) => [
+            number,
+            place,
+            u32::from(verdict.failed.is_none()),
+            verdict.failed.unwrap_or(0),
+            verdict.writes,
+            verdict.reads,
+            verdict.overlapped,
+        ],
+        Err(_) => [number, place, 0, 0, 0, 0, 0],
+    };
+    number
 }
 
 // Runs a schedule into an output: the three numbers of the answer; returns the first.

@@ -4,8 +4,10 @@
 
 ghost use Rattle.judge_log.specs.Input.{Within};
 
+use judge::Verdict;
 use std::io;
 use std::io::Read;
+use terms::Refused;
 
 // What was read: so many bytes at the start of the buffer, or nothing, where a read failed.
 #[derive(Drop)]
@@ -29,12 +31,21 @@ fn read_input(reader: &mut impl Read, buffer: &mut [u8]) -> Input
     Input::Bytes(done)
 }
 
-fn print(rt: &impl Print, a: judge::Answer) -> io::Result<()> {
-    println!(rt; "answer {} offset {}", a.number, a.place)?;
-    println!(rt; "atomic {} first {}", a.atomic, a.first)?;
+// The three lines. A refused log has atomic 0, first 0 and all counts 0.
+fn print(rt: &impl Print, answer: Result<Verdict, Refused>) -> io::Result<()> {
+    println!(rt;
+        "answer {} offset {}",
+        terms::number(&answer),
+        terms::place(&answer)
+    )?;
+    let (atomic, verdict) = match answer {
+        Ok(verdict) => (u32::from(verdict.failed.is_none()), verdict),
+        Err(_) => (0, Verdict::default()),
+    };
+    println!(rt; "atomic {} first {}", atomic, verdict.failed.unwrap_or(0))?;
     println!(rt;
         "writes {} reads {} overlapped {}",
-        a.writes, a.reads, a.overlapped
+        verdict.writes, verdict.reads, verdict.overlapped
     )
 }
 
