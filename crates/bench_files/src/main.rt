@@ -31,17 +31,19 @@ fn kept(bytes: &[u8], n: usize) -> bool {
 
 // A line: the run of a schedule with a lent output, all bytes of which are 170.
 fn line(rt: &impl Print, name: &str, schedule: &[u8], out: &mut [u8]) -> io::Result<()> {
-    let answer = replay::run(schedule, out);
-    let rest = if kept(out, answer.length) {
+    let ran = replay::run(schedule, out);
+    let length = ran.unwrap_or(0);
+    let rest = if kept(out, length) {
         "as found"
     } else {
         "touched"
     };
     print!(rt;
-        "{name}: answer {} offset {} length {}, rest {rest}, log",
-        answer.number, answer.place, answer.length
+        "{name}: answer {} offset {} length {length}, rest {rest}, log",
+        terms::number(&ran),
+        terms::place(&ran)
     )?;
-    show(rt, out, answer.length)?;
+    show(rt, out, length)?;
     println!(rt; "")
 }
 

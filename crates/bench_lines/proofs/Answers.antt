@@ -13,7 +13,7 @@ use Rattle.history.specs.Verdict as history
 use Rattle.history.proofs.Unique.{answer_unique}
 use Rattle.fields.specs.Walk.{Walked, ended, refused}
 use Rattle.fields.specs.Events.{Recorded, recorded}
-use Rattle.replay.specs.declared.Answer as replay
+use Rattle.replay.specs.Run as replay
 use Rattle.replay.specs.Run.{run_of, answer_of, output_of, Runs}
 use Rattle.judge.specs.Promise as judge
 use Rattle.judge.specs.Promise.{Judges, JudgesRead, JudgesEvents, read_log, verdict_of}

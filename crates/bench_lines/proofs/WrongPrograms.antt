@@ -15,7 +15,7 @@ use Rattle.register.specs.declared.State.{State}
 use Rattle.register.specs.declared.Move.TheVariants.{WriterStart, ReaderStep}
 use Rattle.register.specs.Initial.{initial}
 use Rattle.register.specs.Move.{Moved, answer_to}
-use Rattle.replay.specs.declared.Answer as replay
+use Rattle.replay.specs.Run as replay
 use Rattle.replay.specs.Run.{move_of, events_of}
 use Rattle.bench_lines.proofs.Answers.{judges, verdict}
 use Rattle.bench_lines.specs.Bytes.{initial5, start9, reader, schedule1, schedule2, log6, log7, log8, log9}

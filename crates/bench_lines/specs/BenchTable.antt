@@ -8,7 +8,7 @@ use Rattle.register.specs.Initial.{initial}
 use Rattle.register.specs.Steps.{c_at}
 use Rattle.register.specs.Move.{answer_to}
 use Rattle.register.specs.Run.{Ran}
-use Rattle.replay.specs.declared.Answer as replay
+use Rattle.replay.specs.Run as replay
 use Rattle.fields.specs.Walk.{ended}
 use Rattle.replay.specs.Run.{Runs}
 use Rattle.replay.specs.Scheduled.{moves_in, scheduled}

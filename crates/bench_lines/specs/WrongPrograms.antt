@@ -7,7 +7,7 @@ use Rattle.register.specs.declared.Moved.{Moved}
 use Rattle.register.specs.declared.Move.{Move}
 use Rattle.register.specs.declared.Move.TheVariants.{WriterStart, ReaderStep}
 use Rattle.register.specs.Move.{MakesMove}
-use Rattle.replay.specs.declared.Answer as replay
+use Rattle.replay.specs.Run as replay
 use Rattle.replay.specs.Run.{Runs}
 use Rattle.judge.specs.Promise as judge
 use Rattle.judge.specs.Promise.{Judges}

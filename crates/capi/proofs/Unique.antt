@@ -15,7 +15,7 @@ use Rattle.register.proofs.Refused.{hands_back}
 use Rattle.capi.specs.Words.{fitting, state_of_words, words_of_state}
 use Rattle.judge.specs.Promise.{Answer as Verdict}
 use Rattle.judge.proofs.Unique as judge
-use Rattle.replay.specs.declared.Answer.{Answer as Ran}
+use Rattle.replay.specs.Run.{Answer as Ran}
 use Rattle.replay.proofs.Theorems as replay
 use Rattle.capi.specs.Promises.{JudgesInto, RunsInto, verdict_words, run_words, MakesMoveOn, FlickersOn}
 
@@ -26,7 +26,7 @@ judge_unique log x y a b p q =
 
 pub run_unique : (schedule out x y v w : List ℕ) (a b : ℕ) → RunsInto schedule out x v a → RunsInto schedule out y w b → (x ≡ y) × (v ≡ w) × (a ≡ b)
 run_unique schedule out x y v w a b p q =
-    let (o, e) = replay.run_unique schedule out x y p.answer q.answer p.runs q.runs in
+    let (o, e) = replay.answer_unique schedule out x y p.answer q.answer p.runs q.runs in
     (o, p.words_are ∙ ap run_words e ∙ sym q.words_are, p.returned ∙ ap (λ (z : Ran). z.number) e ∙ sym q.returned)
 
 pub move_unique : (m : Move) (w x y : List ℕ) (a b : ℕ) → MakesMoveOn m w x a → MakesMoveOn m w y b → (x ≡ y) × (a ≡ b)

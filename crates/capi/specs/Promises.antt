@@ -5,7 +5,7 @@ use Rattle.terms.specs.Refusals.{out_of_range}
 use Rattle.register.specs.declared.Move.{Move}
 use Rattle.register.specs.declared.Move.TheVariants.{WriterStart, WriterStep, WriterFlicker, ReaderStep, ReaderFlicker}
 use Rattle.register.specs.Move.{answer_to}
-use Rattle.replay.specs.declared.Answer as replay
+use Rattle.replay.specs.Run as replay
 use Rattle.replay.specs.Run.{Runs}
 use Rattle.judge.specs.Promise as judge
 use Rattle.judge.specs.Promise.{Judges}

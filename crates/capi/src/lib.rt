@@ -36,9 +36,10 @@ pub extern "C" fn chaemodul_judge(log: &[u8], answer: &mut [u32; 7]) -> u32
 pub extern "C" fn chaemodul_run(schedule: &[u8], out: &mut [u8], answer: &mut [u32; 3]) -> u32
     ensures { RunsInto schedule.now out.old out.new answer.new result }
 {
-    let a = replay::run(schedule, out);
-    *answer = [a.number, a.place as u32, a.length as u32];
-    a.number
+    let ran = replay::run(schedule, out);
+    let number = terms::number(&ran);
+    *answer = [number, terms::place(&ran) as u32, ran.unwrap_or(0) as u32];
+    number
 }
 
 // Each word of a location or a bit fits its byte.

@@ -25,7 +25,7 @@ use Rattle.fields.specs.Events.{Recorded, recorded, log_bytes}
 use Rattle.fields.specs.Numbers.{Bytes}
 use Rattle.register.specs.declared.Move.{Move}
 use Rattle.register.specs.Initial.{initial}
-use Rattle.replay.specs.declared.Answer as replay
+use Rattle.replay.specs.Run as replay
 use Rattle.replay.specs.Run.{run_of, answer_of, Runs, Allowed}
 use Rattle.replay.specs.Scheduled.{Scheduled, moves_in, scheduled, events_along}
 use Rattle.replay.proofs.Theorems.{AllowedRun, allowed_run, allowed_result, log_from, log_bound}

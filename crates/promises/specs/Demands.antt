@@ -11,7 +11,7 @@ use Rattle.fields.specs.declared.Kind.TheVariants.{Log}
 use Rattle.fields.specs.Tags.{limit_of}
 use Rattle.fields.specs.Walk.{ended}
 use Rattle.register.specs.declared.Move.{Move}
-use Rattle.replay.specs.declared.Answer as replay
+use Rattle.replay.specs.Run as replay
 use Rattle.replay.specs.Run.{Runs}
 use Rattle.replay.specs.Scheduled.{moves_in, scheduled}
 use Rattle.judge.specs.Promise as judge

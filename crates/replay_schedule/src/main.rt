@@ -66,11 +66,13 @@ fn replayed(rt: &(impl Print + Eprint), bytes: &[u8], n: usize) -> io::Result<()
         return Ok(());
     }
     let mut out = [0u8; 65536];
-    let answer = replay::run(&bytes[..n], &mut out);
-    show(rt, &out, answer.length)?;
+    let ran = replay::run(&bytes[..n], &mut out);
+    let length = ran.unwrap_or(0);
+    show(rt, &out, length)?;
     eprintln!(rt;
-        "answer {} offset {} length {}",
-        answer.number, answer.place, answer.length
+        "answer {} offset {} length {length}",
+        terms::number(&ran),
+        terms::place(&ran)
     )
 }
 
