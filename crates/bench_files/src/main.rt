@@ -4,7 +4,7 @@
 
 use std::io;
 
-// The first n bytes.
+// The first n bytes, or all where there are fewer: n is the length that the run answered, not shown to be within them.
 fn show(rt: &impl Print, bytes: &[u8], n: usize) -> io::Result<()> {
     for byte in bytes.iter().take(n) {
         print!(rt; " {byte}")?;
@@ -12,7 +12,7 @@ fn show(rt: &impl Print, bytes: &[u8], n: usize) -> io::Result<()> {
     Ok(())
 }
 
-// Whether every byte behind the first n is as it was found: 170.
+// Whether every byte behind the first n, if there is one, is as it was found: 170.
 fn kept(bytes: &[u8], n: usize) -> bool {
     bytes.iter().skip(n).all(|byte| *byte == 170)
 }

@@ -5,7 +5,7 @@
 
 use std::io;
 
-// Runs the schedule. The log has at most 65,531 bytes, for which there is room.
+// Runs the schedule. The log has at most 65,531 bytes, for which there is room; `get` does not ask for a proof of it.
 fn replayed(rt: &(impl Print + Eprint), schedule: &[u8]) -> io::Result<()> {
     let mut out = [0u8; 65536];
     let answer = replay::run(schedule, &mut out);
