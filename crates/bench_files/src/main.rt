@@ -4,29 +4,17 @@
 
 use std::io;
 
-// The first n bytes.
+// The first n bytes, or all where there are fewer: n is the length that the run answered, not shown to be within them.
 fn show(rt: &impl Print, bytes: &[u8], n: usize) -> io::Result<()> {
-    let mut i = 0;
-    while i < bytes.len() {
-        if i < n {
-            print!(rt; " {}", bytes[i])?;
-        }
-        i += 1;
+    for byte in bytes.iter().take(n) {
+        print!(rt; " {byte}")?;
     }
     Ok(())
 }
 
-// Whether every byte behind the first n is as it was found: 170.
+// Whether every byte behind the first n, if there is one, is as it was found: 170.
 fn kept(bytes: &[u8], n: usize) -> bool {
-    let mut i = 0;
-    let mut same = true;
-    while i < bytes.len() {
-        if n <= i {
-            same = same & (bytes[i] == 170);
-        }
-        i += 1;
-    }
-    same
+    bytes.iter().skip(n).all(|byte| *byte == 170)
 }
 
 // A line: the run of a schedule with a lent output, all bytes of which are 170.

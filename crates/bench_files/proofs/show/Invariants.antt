@@ -1,6 +1,0 @@
--- The loop of `show`: the index goes up to the length.
-use Rattle.std.specs.Prelude.{length, ◌-◌}
-use Rattle.bench_files.proofs.show.Given as goal
-
-abbrev pub decreases-loop-i : goal.decreases-loop-i
-decreases-loop-i g l = length l.bytes - l.i
