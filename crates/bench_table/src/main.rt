@@ -38,8 +38,7 @@ enum NumberField {
 
 // The number that a move is answered.
 fn answer(rt: &impl Print, s: State, m: Move) -> io::Result<()> {
-    let a = s.moved(m);
-    print!(rt; " {}", terms::number(&a.answer))
+    print!(rt; " {}", terms::number(&s.moved(m).answer))
 }
 
 // The numbers that a move of each of the five kinds is answered, the flickers with a bit each.

@@ -1,4 +1,5 @@
--- A device, not to be believed: what the private functions of a step rest on. `State::moved` shows it from its test of the ranges.
+-- A device, not to be believed: what the private functions of a step rest on, which `State::sound` shows from its test of the ranges, and
+-- what they promise.
 use Rattle.std.specs.Prelude.{ℕ, ◌≤◌, ◌≡◌, Result, Ok, Err}
 use Rattle.terms.specs.declared.Refusal.{Refusal}
 use Rattle.terms.specs.Refusals.{refusal_number}
@@ -30,5 +31,5 @@ answer_in s (Ok t) = good t
 answer_in s (Err e) = refused (refusal_number e) s
 
 -- what the private functions of a step promise
-abbrev pub Steps : Move → State → Result State Refusal → Type 0
-Steps m s r = answer_in s r ≡ step_of m s
+abbrev pub MakesStep : Move → State → Result State Refusal → Type 0
+MakesStep m s r = answer_in s r ≡ step_of m s

@@ -7,7 +7,7 @@ ghost use Rattle.register.specs.declared.Move.TheVariants.{WriterStart, WriterSt
 ghost use Rattle.register.specs.Initial.{IsInitial};
 ghost use Rattle.register.specs.Steps as steps;
 ghost use Rattle.register.specs.Move.{MakesMove, answer_to, between, bit_carried, is_in_range, is_a_clash, would_write_row};
-ghost use Rattle.register.specs.Device.{InBounds, RowInBounds, Steps, answer_in};
+ghost use Rattle.register.specs.Device.{InBounds, MakesStep, RowInBounds, answer_in};
 
 use terms::{Refusal, Refused, Value};
 
@@ -218,7 +218,7 @@ impl Sound {
 
     // A writer's start: step 20, the beginning of a write.
     fn start(self, v: Value) -> Result<State, Refusal>
-        ensures { Steps (WriterStart v) self.state result }
+        ensures { MakesStep (WriterStart v) self.state result }
     {
         let mut s = self.state;
         let q = s.q;
@@ -241,7 +241,7 @@ impl Sound {
 
     // Another writer step: 21 to 27.
     fn writer(self) -> Result<State, Refusal>
-        ensures { Steps WriterStep self.state result }
+        ensures { MakesStep WriterStep self.state result }
     {
         let mut s = self.state;
         let q = s.q;
@@ -285,7 +285,7 @@ impl Sound {
 
     // A writer flicker: the bit being assigned at 21, 24 or 26 is set, and nothing else.
     fn writer_flicker(self, b: u8) -> Result<State, Refusal>
-        ensures { Steps (WriterFlicker b) self.state result }
+        ensures { MakesStep (WriterFlicker b) self.state result }
     {
         let mut s = self.state;
         let q = s.q;
@@ -303,7 +303,7 @@ impl Sound {
 
     // A reader step: 40 to 44.
     fn reader(self) -> Result<State, Refusal>
-        ensures { Steps ReaderStep self.state result }
+        ensures { MakesStep ReaderStep self.state result }
     {
         let mut s = self.state;
         let r = s.r;
@@ -342,7 +342,7 @@ impl Sound {
 
     // A reader flicker: the bit being assigned at 41 is set, and nothing else.
     fn reader_flicker(self, b: u8) -> Result<State, Refusal>
-        ensures { Steps (ReaderFlicker b) self.state result }
+        ensures { MakesStep (ReaderFlicker b) self.state result }
     {
         let mut s = self.state;
         let r = s.r;
@@ -356,7 +356,7 @@ impl Sound {
 
     // The step or the flicker of a move, or the refusal of one that does not fit.
     fn stepped(self, m: Move) -> Result<State, Refusal>
-        ensures { Steps m self.state result }
+        ensures { MakesStep m self.state result }
     {
         match m {
             Move::WriterStart(v) => self.start(v),
