@@ -12,8 +12,7 @@ const NUMBERS: [u32; 2] = [65535, 65536];
 
 // The number that a move is answered.
 fn answer(rt: &impl Print, s: State, m: Move) -> io::Result<()> {
-    let a = s.moved(m);
-    print!(rt; " {}", terms::number(&a.answer))
+    print!(rt; " {}", terms::number(&s.moved(m).answer))
 }
 
 // The numbers that the moves are answered, each at the same state.

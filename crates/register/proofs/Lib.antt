@@ -6,4 +6,4 @@ pub mod InitialPins
 pub mod Stays
 pub mod Flickers
 pub mod Refused
-pub mod Moving
+pub mod Tested

@@ -1,6 +1,6 @@
 -- What a state in range is: each bound of refusal 9's list, read back from the test, and the test from the bounds.
 -- Assumes nothing.
-use mathlib.Core.Path.{◌≡◌, refl}
+use mathlib.Core.Path.{◌≡◌}
 use mathlib.Core.Bool.{true, ◌&&◌}
 use Prim.Native.Nat.{ℕ, zero, suc, ◌≤◌, zero-le}
 use mathlib.Core.List.{List, [], ◌∷◌}
@@ -16,10 +16,6 @@ pub each : (n : ℕ) (xs : List ℕ) → all_at_most n xs ≡ true → (i : ℕ)
 each n [] e i = zero-le
 each n (x ∷ xs) e zero = leb-true x n (both (leb x n) (all_at_most n xs) e).0
 each n (x ∷ xs) e (suc i) = each n xs (both (leb x n) (all_at_most n xs) e).1 i
-
-pub all : (n : ℕ) (xs : List ℕ) → ((i : ℕ) → get_or xs i 0 ≤ n) → all_at_most n xs ≡ true
-all n [] h = refl
-all n (x ∷ xs) h = rw (le-leb x n (h zero)) (all n xs (λ i. h (suc i)))
 
 -- The bounds.
 pub record Bounds (s : State) : Type 0 where

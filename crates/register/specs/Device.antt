@@ -1,10 +1,12 @@
--- A device, not to be believed: what the private functions of a step rest on. `State::moved` shows it from its test of the ranges.
-use Rattle.std.specs.Prelude.{ℕ, ◌≤◌, Result, Ok, Err}
+-- A device, not to be believed: what the private functions of a step rest on, which `State::sound` shows from its test of the ranges, and
+-- what they promise.
+use Rattle.std.specs.Prelude.{ℕ, ◌≤◌, ◌≡◌, Result, Ok, Err}
 use Rattle.terms.specs.declared.Refusal.{Refusal}
 use Rattle.terms.specs.Refusals.{refusal_number}
 use Rattle.register.specs.declared.State.{State}
+use Rattle.register.specs.declared.Move.{Move}
 use Rattle.register.specs.Steps.{opposite, c_at}
-use Rattle.register.specs.Move.{Moved, good, refused}
+use Rattle.register.specs.Move.{Moved, good, refused, step_of}
 
 -- a row of the buffers, with its c[i] a bit
 pub record RowInBounds (s : State) (i : ℕ) : Type 0 where
@@ -27,3 +29,7 @@ pub record InBounds (s : State) : Type 0 where
 abbrev pub answer_in : State → Result State Refusal → Moved
 answer_in s (Ok t) = good t
 answer_in s (Err e) = refused (refusal_number e) s
+
+-- what the private functions of a step promise
+abbrev pub MakesStep : Move → State → Result State Refusal → Type 0
+MakesStep m s r = answer_in s r ≡ step_of m s

@@ -2,11 +2,12 @@
 // specs/Initial.antt, specs/Steps.antt and specs/Move.antt say what is right; every step here stands in the order of its text there.
 #![tactic(auto)]
 
-ghost use Rattle.std.specs.Prelude.{◌≡◌, max};
+ghost use Rattle.std.specs.Prelude.{◌≡◌, ◌&&◌, IfSome, is_some, leb, IsTrue, ◌↔◌, All, ◌≤◌};
+ghost use Rattle.register.specs.declared.Move.TheVariants.{WriterStart, WriterStep, WriterFlicker, ReaderStep, ReaderFlicker};
 ghost use Rattle.register.specs.Initial.{IsInitial};
 ghost use Rattle.register.specs.Steps as steps;
-ghost use Rattle.register.specs.Move.{MakesMove, answer_at, answer_to, bit_carried, is_in_range, is_a_clash, reader_flicker_rows, reader_rows, start_rows, step_of, would_write_row, writer_flicker_rows, writer_rows};
-ghost use Rattle.register.specs.Device.{InBounds, RowInBounds, answer_in};
+ghost use Rattle.register.specs.Move.{MakesMove, answer_to, between, bit_carried, is_in_range, is_a_clash, would_write_row};
+ghost use Rattle.register.specs.Device.{InBounds, MakesStep, RowInBounds, answer_in};
 
 use terms::{Refusal, Refused, Value};
 
@@ -50,11 +51,11 @@ pub struct Moved {
     pub state: State,
 }
 
-// The greater of two numbers.
-fn greater(a: u32, b: u32) -> u32
-    ensures { result ≡ max a b }
-{
-    if a < b { b } else { a }
+// A state in range, in which a step starts.
+#[derive(Clone, Copy)]
+struct Sound {
+    state: State,
+    ghost in_bounds: { InBounds state },
 }
 
 // The bit that a move carries, 0 where it carries none.
@@ -62,12 +63,30 @@ fn carried_bit(m: Move) -> u8
     ensures { result ≡ bit_carried m }
 {
     match m {
-        Move::WriterStart(_) => 0,
-        Move::WriterStep => 0,
-        Move::WriterFlicker(b) => b,
-        Move::ReaderStep => 0,
-        Move::ReaderFlicker(b) => b,
+        Move::WriterFlicker(b) | Move::ReaderFlicker(b) => b,
+        _ => 0,
     }
+}
+
+// A location from the first to the last.
+fn is_between(first: u8, last: u8, location: u8) -> bool
+    ensures { result ≡ between first last location }
+{
+    (first..=last).contains(&location)
+}
+
+// Bits, each of them.
+fn are_bits(bits: &[u8]) -> bool
+    ensures { IsTrue result ↔ All (λ b. b ≤ 1) bits.now }
+{
+    bits.iter().all(|&b| b <= 1)
+}
+
+// Numbers of 16 bits, each of them.
+fn are_numbers(numbers: &[u32]) -> bool
+    ensures { IsTrue result ↔ All (λ n. n ≤ 65535) numbers.now }
+{
+    numbers.iter().all(|&n| n <= 65535)
 }
 
 impl State {
@@ -101,25 +120,24 @@ impl State {
     fn in_range(self) -> bool
         ensures { result ≡ is_in_range self }
     {
-        let locations = (20 <= self.q) & (self.q <= 27) & ((40 <= self.r) & (self.r <= 44));
-        let bits = (self.ww <= 1)
-            & (self.rr <= 1)
-            & (self.c[0] <= 1)
-            & (self.c[1] <= 1)
-            & (self.aw <= 1)
-            & (self.cw <= 1)
-            & (self.br <= 1)
-            & (self.cr <= 1);
-        let numbers = (self.tags[0] <= 65535)
-            & (self.tags[1] <= 65535)
-            & (self.tags[2] <= 65535)
-            & (self.tags[3] <= 65535)
-            & (self.startw <= 65535)
-            & (self.startr <= 65535)
-            & (self.numberw <= 65535)
-            & (self.numberr <= 65535)
-            & (self.masq <= 65535);
-        locations & bits & numbers
+        let bits = [
+            self.ww, self.rr, self.c[0], self.c[1], self.aw, self.cw, self.br, self.cr,
+        ];
+        let numbers = [
+            self.tags[0],
+            self.tags[1],
+            self.tags[2],
+            self.tags[3],
+            self.startw,
+            self.startr,
+            self.numberw,
+            self.numberr,
+            self.masq,
+        ];
+        is_between(20, 27, self.q)
+            & is_between(40, 44, self.r)
+            & are_bits(&bits)
+            & are_numbers(&numbers)
     }
 
     // At work on the row i, the writer would write buf[br,cr].
@@ -127,19 +145,7 @@ impl State {
         requires { RowInBounds self i }
         ensures { result ≡ would_write_row self i }
     {
-        let row = i as usize;
-        (i == self.br) & (1 - self.c[row] == self.cr)
-    }
-
-    // With r = 43, the writer at 20 would write buf[br,cr], or the writer at 23 would.
-    fn is_clash(self) -> bool
-        requires { InBounds self }
-        ensures { result ≡ is_a_clash self }
-    {
-        let other = 1 - self.aw;
-        let at_20 = self.would_write(self.aw);
-        let at_23 = self.would_write(other);
-        (self.r == 43) & (((self.q == 20) & at_20) | ((self.q == 23) & at_23))
+        i == self.br && 1 - self.c[i as usize] == self.cr
     }
 
     // cw becomes not c[i]; buf[i,cw] takes the value, its tag the number.
@@ -154,172 +160,28 @@ impl State {
         self
     }
 
-    // A writer's start: step 20, the beginning of a write.
-    fn start(mut self, v: Value) -> Result<State, Refusal>
-        requires { InBounds self }
-        ensures { answer_in self result ≡ answer_at self.q (start_rows v self) self }
+    // The state that was given, if it and the move's bit are in range.
+    fn sound(self, m: Move) -> Option<Sound>
+        ensures given { IfSome result (λ t. t.state ≡ self) }
+        ensures tested { is_some result ≡ (is_in_range self && leb (bit_carried m) 1) }
     {
-        let q = self.q;
-        match q {
-            0..=19 | 28..=255 => return Err(Refusal::OutOfRange),
-            20 => {
-                if self.numberw == 65535 {
-                    return Err(Refusal::NumberSpent);
-                }
-                self.startw = self.masq;
-                self.numberw = self.numberw + 1;
-                self.kept = v;
-                let row = self.aw as usize;
-                self = self.stored(row, v);
-                self.q = 21;
-            }
-            _ => return Err(Refusal::Misfit),
-        }
-        Ok(self)
-    }
-
-    // Another writer step: 21 to 27.
-    fn writer(mut self) -> Result<State, Refusal>
-        requires { InBounds self }
-        ensures { answer_in self result ≡ answer_at self.q (writer_rows self) self }
-    {
-        let q = self.q;
-        let row = self.aw as usize;
-        let other = 1 - row;
-        match q {
-            0..=19 | 28..=255 => return Err(Refusal::OutOfRange),
-            20 => return Err(Refusal::Misfit),
-            21 => {
-                self.c[row] = self.cw;
-                self.q = 22;
-            }
-            22 => self.q = if self.aw == self.rr { 23 } else { 27 },
-            23 => {
-                self = self.stored(other, self.kept);
-                self.q = 24;
-            }
-            24 => {
-                self.c[other] = self.cw;
-                self.q = 25;
-            }
-            25 => {
-                if self.aw == self.rr {
-                    self.aw = 1 - self.aw;
-                    self.q = 26;
-                } else {
-                    self.q = 27;
-                }
-            }
-            26 => {
-                self.ww = self.aw;
-                self.q = 27;
-            }
-            27 => {
-                self.masq = greater(self.masq, self.numberw);
-                self.q = 20;
-            }
-        }
-        Ok(self)
-    }
-
-    // A writer flicker: the bit being assigned at 21, 24 or 26 is set, and nothing else.
-    fn writer_flicker(mut self, b: u8) -> Result<State, Refusal>
-        requires { InBounds self }
-        ensures { answer_in self result ≡ answer_at self.q (writer_flicker_rows b self) self }
-    {
-        let q = self.q;
-        let row = self.aw as usize;
-        let other = 1 - row;
-        match q {
-            0..=19 | 28..=255 => return Err(Refusal::OutOfRange),
-            21 => self.c[row] = b,
-            24 => self.c[other] = b,
-            26 => self.ww = b,
-            _ => return Err(Refusal::Misfit),
-        }
-        Ok(self)
-    }
-
-    // A reader step: 40 to 44.
-    fn reader(mut self) -> Result<State, Refusal>
-        requires { InBounds self }
-        ensures { answer_in self result ≡ answer_at self.r (reader_rows self) self }
-    {
-        let r = self.r;
-        match r {
-            0..=39 | 45..=255 => return Err(Refusal::OutOfRange),
-            40 => {
-                self.startr = self.masq;
-                if self.br == self.ww {
-                    self.r = 44;
-                } else {
-                    self.br = 1 - self.br;
-                    self.r = 41;
-                }
-            }
-            41 => {
-                self.rr = self.br;
-                self.r = 42;
-            }
-            42 => {
-                let row = self.br as usize;
-                self.cr = self.c[row];
-                self.r = 43;
-            }
-            43 => {
-                let slot = 2 * (self.br as usize) + self.cr as usize;
-                self.value = self.bufs[slot];
-                self.numberr = self.tags[slot];
-                self.r = 44;
-            }
-            44 => {
-                self.masq = greater(self.masq, self.numberr);
-                self.r = 40;
-            }
-        }
-        Ok(self)
-    }
-
-    // A reader flicker: the bit being assigned at 41 is set, and nothing else.
-    fn reader_flicker(mut self, b: u8) -> Result<State, Refusal>
-        requires { InBounds self }
-        ensures { answer_in self result ≡ answer_at self.r (reader_flicker_rows b self) self }
-    {
-        let r = self.r;
-        match r {
-            0..=39 | 45..=255 => return Err(Refusal::OutOfRange),
-            41 => self.rr = b,
-            _ => return Err(Refusal::Misfit),
-        }
-        Ok(self)
-    }
-
-    // The step or the flicker of a move, or the refusal of one that does not fit.
-    fn stepped(self, m: Move) -> Result<State, Refusal>
-        requires { InBounds self }
-        ensures { answer_in self result ≡ step_of m self }
-    {
-        match m {
-            Move::WriterStart(v) => self.start(v),
-            Move::WriterStep => self.writer(),
-            Move::WriterFlicker(b) => self.writer_flicker(b),
-            Move::ReaderStep => self.reader(),
-            Move::ReaderFlicker(b) => self.reader_flicker(b),
+        if self.in_range() && carried_bit(m) <= 1 {
+            Some(Sound { state: self })
+        } else {
+            None
         }
     }
 
     // The next state, or why the move is refused.
-    #[tactic(auto, using(crate::proofs::InBounds::in_bounds), unfolding(crate::specs::Move::answer_to))]
+    #[tactic(auto, unfolding(crate::specs::Move::answer_to))]
     fn next(self, m: Move) -> Result<State, Refusal>
         ensures { answer_in self result ≡ answer_to self m }
     {
-        if !(self.in_range() & (carried_bit(m) <= 1)) {
-            return Err(Refusal::OutOfRange);
-        }
-        if self.is_clash() {
+        let sound = self.sound(m).ok_or(Refusal::OutOfRange)?;
+        if sound.is_clash() {
             return Err(Refusal::Clash);
         }
-        self.stepped(m)
+        sound.stepped(m)
     }
 
     // One move: the answer with the next state, or with a refusal and the state that was given.
@@ -336,6 +198,172 @@ impl State {
         Moved {
             answer,
             state: self,
+        }
+    }
+}
+
+impl Sound {
+    // With r = 43, the writer at 20 would write buf[br,cr], or the writer at 23 would.
+    fn is_clash(self) -> bool
+        ensures { result ≡ is_a_clash self.state }
+    {
+        let s = self.state;
+        s.r == 43
+            && match s.q {
+                20 => s.would_write(s.aw),
+                23 => s.would_write(1 - s.aw),
+                _ => false,
+            }
+    }
+
+    // A writer's start: step 20, the beginning of a write.
+    fn start(self, v: Value) -> Result<State, Refusal>
+        ensures { MakesStep (WriterStart v) self.state result }
+    {
+        let mut s = self.state;
+        let q = s.q;
+        match q {
+            0..=19 | 28..=255 => return Err(Refusal::OutOfRange),
+            20 => {
+                if s.numberw == 65535 {
+                    return Err(Refusal::NumberSpent);
+                }
+                s.startw = s.masq;
+                s.numberw += 1;
+                s.kept = v;
+                s = s.stored(s.aw as usize, v);
+                s.q = 21;
+            }
+            _ => return Err(Refusal::Misfit),
+        }
+        Ok(s)
+    }
+
+    // Another writer step: 21 to 27.
+    fn writer(self) -> Result<State, Refusal>
+        ensures { MakesStep WriterStep self.state result }
+    {
+        let mut s = self.state;
+        let q = s.q;
+        let row = s.aw as usize;
+        let other = 1 - row;
+        match q {
+            0..=19 | 28..=255 => return Err(Refusal::OutOfRange),
+            20 => return Err(Refusal::Misfit),
+            21 => {
+                s.c[row] = s.cw;
+                s.q = 22;
+            }
+            22 => s.q = if s.aw == s.rr { 23 } else { 27 },
+            23 => {
+                s = s.stored(other, s.kept);
+                s.q = 24;
+            }
+            24 => {
+                s.c[other] = s.cw;
+                s.q = 25;
+            }
+            25 => {
+                if s.aw == s.rr {
+                    s.aw = 1 - s.aw;
+                    s.q = 26;
+                } else {
+                    s.q = 27;
+                }
+            }
+            26 => {
+                s.ww = s.aw;
+                s.q = 27;
+            }
+            27 => {
+                s.masq = s.masq.max(s.numberw);
+                s.q = 20;
+            }
+        }
+        Ok(s)
+    }
+
+    // A writer flicker: the bit being assigned at 21, 24 or 26 is set, and nothing else.
+    fn writer_flicker(self, b: u8) -> Result<State, Refusal>
+        ensures { MakesStep (WriterFlicker b) self.state result }
+    {
+        let mut s = self.state;
+        let q = s.q;
+        let row = s.aw as usize;
+        let other = 1 - row;
+        match q {
+            0..=19 | 28..=255 => return Err(Refusal::OutOfRange),
+            21 => s.c[row] = b,
+            24 => s.c[other] = b,
+            26 => s.ww = b,
+            _ => return Err(Refusal::Misfit),
+        }
+        Ok(s)
+    }
+
+    // A reader step: 40 to 44.
+    fn reader(self) -> Result<State, Refusal>
+        ensures { MakesStep ReaderStep self.state result }
+    {
+        let mut s = self.state;
+        let r = s.r;
+        match r {
+            0..=39 | 45..=255 => return Err(Refusal::OutOfRange),
+            40 => {
+                s.startr = s.masq;
+                if s.br == s.ww {
+                    s.r = 44;
+                } else {
+                    s.br = 1 - s.br;
+                    s.r = 41;
+                }
+            }
+            41 => {
+                s.rr = s.br;
+                s.r = 42;
+            }
+            42 => {
+                s.cr = s.c[s.br as usize];
+                s.r = 43;
+            }
+            43 => {
+                let slot = 2 * (s.br as usize) + s.cr as usize;
+                s.value = s.bufs[slot];
+                s.numberr = s.tags[slot];
+                s.r = 44;
+            }
+            44 => {
+                s.masq = s.masq.max(s.numberr);
+                s.r = 40;
+            }
+        }
+        Ok(s)
+    }
+
+    // A reader flicker: the bit being assigned at 41 is set, and nothing else.
+    fn reader_flicker(self, b: u8) -> Result<State, Refusal>
+        ensures { MakesStep (ReaderFlicker b) self.state result }
+    {
+        let mut s = self.state;
+        let r = s.r;
+        match r {
+            0..=39 | 45..=255 => return Err(Refusal::OutOfRange),
+            41 => s.rr = b,
+            _ => return Err(Refusal::Misfit),
+        }
+        Ok(s)
+    }
+
+    // The step or the flicker of a move, or the refusal of one that does not fit.
+    fn stepped(self, m: Move) -> Result<State, Refusal>
+        ensures { MakesStep m self.state result }
+    {
+        match m {
+            Move::WriterStart(v) => self.start(v),
+            Move::WriterStep => self.writer(),
+            Move::WriterFlicker(b) => self.writer_flicker(b),
+            Move::ReaderStep => self.reader(),
+            Move::ReaderFlicker(b) => self.reader_flicker(b),
         }
     }
 }
