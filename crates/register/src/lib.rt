@@ -263,14 +263,11 @@ impl Sound {
                 s.c[other] = s.cw;
                 s.q = 25;
             }
-            25 => {
-                if s.aw == s.rr {
-                    s.aw = 1 - s.aw;
-                    s.q = 26;
-                } else {
-                    s.q = 27;
-                }
+            25 if s.aw == s.rr => {
+                s.aw = 1 - s.aw;
+                s.q = 26;
             }
+            25 => s.q = 27,
             26 => {
                 s.ww = s.aw;
                 s.q = 27;
