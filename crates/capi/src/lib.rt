@@ -1,12 +1,12 @@
 // The C interface (include/chaemodul.h): each function takes plain numbers and lent arrays, and hands on to the proved crates.
 #![tactic(auto)]
 
-ghost use Rattle.std.specs.Prelude.{◌≡◌};
+ghost use Rattle.std.specs.Prelude.{◌≡◌, ◌≤◌, ◌↔◌, All, IsTrue};
 ghost use Rattle.capi.specs.Words.{Fitting, fitting, state_of_words, words_of_state};
 ghost use Rattle.capi.specs.Promises.{StartsWrite, StepsWriter, FlickersWriter, StepsReader, FlickersReader, MakesMoveOn, JudgesInto, RunsInto};
 
 use register::{Move, State};
-use terms::OUT_OF_RANGE;
+use terms::Refusal;
 
 // Judges a log: the seven numbers of the answer; returns the first.
 #[unsafe(no_mangle)]
@@ -42,20 +42,20 @@ pub extern "C" fn chaemodul_run(schedule: &[u8], out: &mut [u8], answer: &mut [u
     number
 }
 
+// Each of the words fits a byte.
+fn are_bytes(words: &[u32]) -> bool
+    ensures { IsTrue result ↔ All (λ word. word ≤ 255) words.now }
+{
+    words.iter().all(|word| *word <= 255)
+}
+
 // Each word of a location or a bit fits its byte.
 fn fits(w: [u32; 25]) -> bool
     ensures { result ≡ fitting w }
 {
-    (w[8] <= 255)
-        & (w[9] <= 255)
-        & (w[10] <= 255)
-        & (w[11] <= 255)
-        & (w[12] <= 255)
-        & (w[13] <= 255)
-        & (w[14] <= 255)
-        & (w[18] <= 255)
-        & (w[19] <= 255)
-        & (w[20] <= 255)
+    are_bytes(&[
+        w[8], w[9], w[10], w[11], w[12], w[13], w[14], w[18], w[19], w[20],
+    ])
 }
 
 // The state of the words.
@@ -124,7 +124,7 @@ fn make(words: &mut [u32; 25], m: Move) -> u32
 {
     let w = *words;
     if !fits(w) {
-        return OUT_OF_RANGE;
+        return Refusal::OutOfRange.into();
     }
     let a = state_of(w).moved(m);
     let next = a.state;
@@ -153,10 +153,10 @@ pub extern "C" fn chaemodul_writer_step(state: &mut [u32; 25]) -> u32
 pub extern "C" fn chaemodul_writer_flicker(state: &mut [u32; 25], bit: u32) -> u32
     ensures { FlickersWriter bit state.old state.new result }
 {
-    if 255 < bit {
-        return OUT_OF_RANGE;
-    }
-    make(state, Move::WriterFlicker(bit as u8))
+    let Ok(bit) = u8::try_from(bit) else {
+        return Refusal::OutOfRange.into();
+    };
+    make(state, Move::WriterFlicker(bit))
 }
 
 // A reader step.
@@ -172,8 +172,8 @@ pub extern "C" fn chaemodul_reader_step(state: &mut [u32; 25]) -> u32
 pub extern "C" fn chaemodul_reader_flicker(state: &mut [u32; 25], bit: u32) -> u32
     ensures { FlickersReader bit state.old state.new result }
 {
-    if 255 < bit {
-        return OUT_OF_RANGE;
-    }
-    make(state, Move::ReaderFlicker(bit as u8))
+    let Ok(bit) = u8::try_from(bit) else {
+        return Refusal::OutOfRange.into();
+    };
+    make(state, Move::ReaderFlicker(bit))
 }

@@ -58,13 +58,13 @@ struct Sound {
     ghost in_bounds: { InBounds state },
 }
 
-// The bit that a move carries, 0 where it carries none.
-fn carried_bit(m: Move) -> u8
-    ensures { result ≡ bit_carried m }
+// Whether the bit that a move carries, if it carries one, is a bit.
+fn carries_bit(m: Move) -> bool
+    ensures { result ≡ leb (bit_carried m) 1 }
 {
     match m {
-        Move::WriterFlicker(b) | Move::ReaderFlicker(b) => b,
-        _ => 0,
+        Move::WriterFlicker(b) | Move::ReaderFlicker(b) => b <= 1,
+        _ => true,
     }
 }
 
@@ -75,18 +75,11 @@ fn is_between(first: u8, last: u8, location: u8) -> bool
     (first..=last).contains(&location)
 }
 
-// Bits, each of them.
-fn are_bits(bits: &[u8]) -> bool
-    ensures { IsTrue result ↔ All (λ b. b ≤ 1) bits.now }
+// Whether none of the numbers is above the limit.
+fn are_at_most(limit: u32, numbers: &[u32]) -> bool
+    ensures { IsTrue result ↔ All (λ n. n ≤ limit) numbers.now }
 {
-    bits.iter().all(|&b| b <= 1)
-}
-
-// Numbers of 16 bits, each of them.
-fn are_numbers(numbers: &[u32]) -> bool
-    ensures { IsTrue result ↔ All (λ n. n ≤ 65535) numbers.now }
-{
-    numbers.iter().all(|&n| n <= 65535)
+    numbers.iter().all(|&n| n <= limit)
 }
 
 impl State {
@@ -121,7 +114,14 @@ impl State {
         ensures { result ≡ is_in_range self }
     {
         let bits = [
-            self.ww, self.rr, self.c[0], self.c[1], self.aw, self.cw, self.br, self.cr,
+            self.ww as u32,
+            self.rr as u32,
+            self.c[0] as u32,
+            self.c[1] as u32,
+            self.aw as u32,
+            self.cw as u32,
+            self.br as u32,
+            self.cr as u32,
         ];
         let numbers = [
             self.tags[0],
@@ -136,8 +136,8 @@ impl State {
         ];
         is_between(20, 27, self.q)
             & is_between(40, 44, self.r)
-            & are_bits(&bits)
-            & are_numbers(&numbers)
+            & are_at_most(1, &bits)
+            & are_at_most(65535, &numbers)
     }
 
     // At work on the row i, the writer would write buf[br,cr].
@@ -165,7 +165,7 @@ impl State {
         ensures given { IfSome result (λ t. t.state ≡ self) }
         ensures tested { is_some result ≡ (is_in_range self && leb (bit_carried m) 1) }
     {
-        if self.in_range() && carried_bit(m) <= 1 {
+        if self.in_range() && carries_bit(m) {
             Some(Sound { state: self })
         } else {
             None

@@ -6,6 +6,6 @@ use Rattle.register.proofs.State.in_range.Goals as goal
 
 pub returns : goal.returns
 returns c =
-    let bits = all_tested 1 (bits_of c.args.self) _ c.are_bits.ensures in
-    let numbers = all_tested 65535 (numbers_of c.args.self) _ c.are_numbers.ensures in
+    let bits = all_tested 1 (bits_of c.args.self) _ c.are_at_most.ensures in
+    let numbers = all_tested 65535 (numbers_of c.args.self) _ c.are_at_most-2.ensures in
     rw (c.is_between.ensures, c.is_between-2.ensures, bits, numbers) (search rules)
