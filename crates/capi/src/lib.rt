@@ -42,7 +42,7 @@ pub extern "C" fn chaemodul_run(schedule: &[u8], out: &mut [u8], answer: &mut [u
     number
 }
 
-// Each of the words fits a byte.
+// Each of the words fits a byte. (`register` tests its numbers by the same chain: one line, and a public function of it would be no plainer.)
 fn are_bytes(words: &[u32]) -> bool
     ensures { IsTrue result ↔ All (λ word. word ≤ 255) words.now }
 {
@@ -148,7 +148,7 @@ pub extern "C" fn chaemodul_writer_step(state: &mut [u32; 25]) -> u32
     make(state, Move::WriterStep)
 }
 
-// A writer flicker with its bit.
+// A writer flicker with its bit. The reader's is its twin: C calls both by name.
 #[unsafe(no_mangle)]
 pub extern "C" fn chaemodul_writer_flicker(state: &mut [u32; 25], bit: u32) -> u32
     ensures { FlickersWriter bit state.old state.new result }

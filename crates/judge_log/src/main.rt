@@ -6,7 +6,8 @@ use judge::Verdict;
 use std::io;
 use terms::Refused;
 
-// The three lines. A refused log has atomic 0, first 0 and all counts 0.
+// The three lines. A refused log has atomic 0, first 0 and all counts 0. They are printed here alone: for a `Display` the answer would need a type
+// of its own, no plainer than this.
 fn print(rt: &impl Print, answer: Result<Verdict, Refused>) -> io::Result<()> {
     println!(rt;
         "answer {} offset {}",

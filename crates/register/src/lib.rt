@@ -11,7 +11,7 @@ ghost use Rattle.register.specs.Device.{InBounds, MakesStep, RowInBounds, answer
 
 use terms::{Refusal, Refused, Value};
 
-// The state. buf[i,j] and its tag stand at 2i + j.
+// The state. buf[i,j] and its tag stand at 2i + j. Locations and bits are bytes, so that one out of its range can be given and refused 9.
 #[derive(Clone, Copy)]
 pub struct State {
     pub bufs: [Value; 4],
