@@ -8,7 +8,6 @@ pub mod Passes
 pub mod Grows
 pub mod Moves
 pub mod Along
-pub mod Leading
 pub mod Asking
 pub mod Measuring
 pub mod Stepping
