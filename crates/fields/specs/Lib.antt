@@ -1,5 +1,5 @@
 -- To be believed, in this order: numbers, the tags, one field, the walk over a whole file, the events of a log, what each function
--- promises, the reading place and what its functions promise.
+-- promises, the reading place and what its functions promise, the walk over a file's fields.
 pub mod Numbers
 pub mod Tags
 pub mod Field
