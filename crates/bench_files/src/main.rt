@@ -4,24 +4,12 @@
 
 use std::io;
 
-// The first n bytes, or all where there are fewer: n is the length that the run answered, not shown to be within them.
-fn show(rt: &impl Print, bytes: &[u8], n: usize) -> io::Result<()> {
-    for byte in bytes.iter().take(n) {
-        print!(rt; " {byte}")?;
-    }
-    Ok(())
-}
-
-// Whether every byte behind the first n, if there is one, is as it was found: 170.
-fn kept(bytes: &[u8], n: usize) -> bool {
-    bytes.iter().skip(n).all(|byte| *byte == 170)
-}
-
 // A line: the run of a schedule with a lent output, all bytes of which are 170.
 fn line(rt: &impl Print, name: &str, schedule: &[u8], out: &mut [u8]) -> io::Result<()> {
     let ran = replay::run(schedule, out);
     let length = ran.unwrap_or(0);
-    let rest = if kept(out, length) {
+    let (log, behind) = out.split_at(length.min(out.len()));
+    let rest = if behind.iter().all(|byte| *byte == 170) {
         "as found"
     } else {
         "touched"
@@ -31,7 +19,9 @@ fn line(rt: &impl Print, name: &str, schedule: &[u8], out: &mut [u8]) -> io::Res
         terms::number(&ran),
         terms::place(&ran)
     )?;
-    show(rt, out, length)?;
+    for byte in log {
+        print!(rt; " {byte}")?;
+    }
     println!(rt; "")
 }
 

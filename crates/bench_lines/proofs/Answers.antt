@@ -15,7 +15,7 @@ use Rattle.fields.specs.Walk.{Walked, ended, refused}
 use Rattle.fields.specs.Events.{Recorded, recorded}
 use Rattle.replay.specs.Run as replay
 use Rattle.replay.specs.Run.{run_of, answer_of, output_of, Runs}
-use Rattle.judge.specs.Promise as judge
+use Rattle.judge.specs.declared.Answer as judge
 use Rattle.judge.specs.Promise.{Judges, JudgesRead, JudgesEvents, read_log, verdict_of}
 use Rattle.bench_lines.specs.BenchTable.{Logs, Verdict}
 

@@ -12,7 +12,7 @@ use Rattle.replay.specs.Run as replay
 use Rattle.fields.specs.Walk.{ended}
 use Rattle.replay.specs.Run.{Runs}
 use Rattle.replay.specs.Scheduled.{moves_in, scheduled}
-use Rattle.judge.specs.Promise as judge
+use Rattle.judge.specs.declared.Answer as judge
 use Rattle.judge.specs.Promise.{Judges}
 use Rattle.bench_lines.specs.Bytes.{schedule1, schedule2, schedule3, schedule4, schedule5, schedule6, log2, log3, log4, log5, log6, log7, log8, log9, log10}
 

@@ -9,7 +9,7 @@ use Rattle.register.specs.declared.Move.TheVariants.{WriterStart, ReaderStep}
 use Rattle.register.specs.Move.{MakesMove}
 use Rattle.replay.specs.Run as replay
 use Rattle.replay.specs.Run.{Runs}
-use Rattle.judge.specs.Promise as judge
+use Rattle.judge.specs.declared.Answer as judge
 use Rattle.judge.specs.Promise.{Judges}
 use Rattle.bench_lines.specs.Bytes.{initial5}
 

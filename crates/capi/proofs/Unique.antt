@@ -13,7 +13,7 @@ use Rattle.register.specs.declared.Move.{Move}
 use Rattle.register.specs.Move.{answer_to}
 use Rattle.register.proofs.Refused.{hands_back}
 use Rattle.capi.specs.Words.{fitting, state_of_words, words_of_state}
-use Rattle.judge.specs.Promise.{Answer as Verdict}
+use Rattle.judge.specs.declared.Answer.{Answer as Verdict}
 use Rattle.judge.proofs.Unique as judge
 use Rattle.replay.specs.Run.{Answer as Ran}
 use Rattle.replay.proofs.Theorems as replay

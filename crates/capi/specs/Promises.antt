@@ -7,7 +7,7 @@ use Rattle.register.specs.declared.Move.TheVariants.{WriterStart, WriterStep, Wr
 use Rattle.register.specs.Move.{answer_to}
 use Rattle.replay.specs.Run as replay
 use Rattle.replay.specs.Run.{Runs}
-use Rattle.judge.specs.Promise as judge
+use Rattle.judge.specs.declared.Answer as judge
 use Rattle.judge.specs.Promise.{Judges}
 use Rattle.capi.specs.Words.{fitting, state_of_words, words_of_state}
 

@@ -13,22 +13,17 @@ use terms::Refusal;
 pub extern "C" fn chaemodul_judge(log: &[u8], answer: &mut [u32; 7]) -> u32
     ensures { JudgesInto log.now answer.new result }
 {
-    let judged = judge::judge(log);
-    let number = terms::number(&judged);
-    let place = terms::place(&judged) as u32;
-    *answer = match judged {
-        Ok(verdict) => [
-            number,
-            place,
-            u32::from(verdict.failed.is_none()),
-            verdict.failed.unwrap_or(0),
-            verdict.writes,
-            verdict.reads,
-            verdict.overlapped,
-        ],
-        Err(_) => [number, place, 0, 0, 0, 0, 0],
-    };
-    number
+    let a = judge::Answer::from(judge::judge(log));
+    *answer = [
+        a.number,
+        a.place as u32,
+        a.atomic,
+        a.first,
+        a.writes,
+        a.reads,
+        a.overlapped,
+    ];
+    a.number
 }
 
 // Runs a schedule into an output: the three numbers of the answer; returns the first.
@@ -58,7 +53,7 @@ fn fits(w: [u32; 25]) -> bool
     ])
 }
 
-// The state of the words.
+// The state of the words: an interface of C's, so no `From`, and `as`, since `Fitting` says that each word fits its byte.
 fn state_of(w: [u32; 25]) -> State
     requires { Fitting w }
     ensures { result ≡ state_of_words w }
@@ -148,7 +143,7 @@ pub extern "C" fn chaemodul_writer_step(state: &mut [u32; 25]) -> u32
     make(state, Move::WriterStep)
 }
 
-// A writer flicker with its bit. The reader's is its twin: C calls both by name.
+// A writer flicker with its bit. The reader's functions are the writer's twins: C calls each by its name.
 #[unsafe(no_mangle)]
 pub extern "C" fn chaemodul_writer_flicker(state: &mut [u32; 25], bit: u32) -> u32
     ensures { FlickersWriter bit state.old state.new result }

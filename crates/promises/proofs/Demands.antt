@@ -29,7 +29,7 @@ use Rattle.replay.specs.Run as replay
 use Rattle.replay.specs.Run.{run_of, answer_of, Runs, Allowed}
 use Rattle.replay.specs.Scheduled.{Scheduled, moves_in, scheduled, events_along}
 use Rattle.replay.proofs.Theorems.{AllowedRun, allowed_run, allowed_result, log_from, log_bound}
-use Rattle.judge.specs.Promise as judge
+use Rattle.judge.specs.declared.Answer as judge
 use Rattle.judge.specs.Promise.{Judges, JudgesRead, JudgesEvents, read_log, verdict_of}
 use Rattle.judge.proofs.Logs.{judges_log}
 use Rattle.promises.specs.MachineDemand.{Demand3Machine}

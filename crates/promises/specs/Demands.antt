@@ -14,7 +14,7 @@ use Rattle.register.specs.declared.Move.{Move}
 use Rattle.replay.specs.Run as replay
 use Rattle.replay.specs.Run.{Runs}
 use Rattle.replay.specs.Scheduled.{moves_in, scheduled}
-use Rattle.judge.specs.Promise as judge
+use Rattle.judge.specs.declared.Answer as judge
 use Rattle.judge.specs.Promise.{Judges, verdict_of}
 use Rattle.promises.specs.MachineDemand.{Demand3Machine}
 

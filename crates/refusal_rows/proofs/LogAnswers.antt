@@ -7,7 +7,8 @@ use mathlib.Core.Logic.{◌↔◌, ◌≢◌}
 use native.Mathlib.Omega.{arith}
 use Rattle.fields.specs.Walk.{Walked, ended, refused}
 use Rattle.fields.specs.Events.{Recorded}
-use Rattle.judge.specs.Promise.{Answer, read_log, JudgesRead, Judges}
+use Rattle.judge.specs.declared.Answer.{Answer}
+use Rattle.judge.specs.Promise.{read_log, JudgesRead, Judges}
 use Rattle.refusal_rows.specs.LogRows.{LogRow}
 use Rattle.refusal_rows.proofs.LogRows.{log_row_of, log_row_unique}
 

@@ -11,8 +11,8 @@ ghost use Rattle.register.specs.Device.{InBounds, MakesStep, RowInBounds, answer
 
 use terms::{Refusal, Refused, Value};
 
-// The state. buf[i,j] and its tag stand at 2i + j. Locations and bits are bytes, so that one out of its range can be given and refused 9.
-#[derive(Clone, Copy)]
+// The state. buf[i,j] and its tag stand at 2i + j, in the two arrays that document 01 asks for. Locations and bits are bytes, so that one out of its range can be given and refused 9.
+#[derive(Clone, Copy, Debug, PartialEq, Eq)]
 pub struct State {
     pub bufs: [Value; 4],
     pub tags: [u32; 4],
@@ -35,7 +35,7 @@ pub struct State {
 }
 
 // One of five kinds of move.
-#[derive(Clone, Copy)]
+#[derive(Clone, Copy, Debug, PartialEq, Eq)]
 pub enum Move {
     WriterStart(Value),
     WriterStep,
@@ -45,7 +45,7 @@ pub enum Move {
 }
 
 // The answer to a move, its place 0 for every single move, and the next state.
-#[derive(Clone, Copy)]
+#[derive(Clone, Copy, Debug, PartialEq, Eq)]
 pub struct Moved {
     pub answer: Result<(), Refused>,
     pub state: State,
