@@ -206,7 +206,7 @@ fn order(rt: &impl Print) -> io::Result<()> {
     )
 }
 
-// One move: the number and the place that it is answered, and the state after it.
+// One move: the number and the place that it is answered, and the state after it, printed here alone (no `Display`).
 fn shown(rt: &impl Print, s: State, m: Move) -> io::Result<State> {
     let a = s.moved(m);
     let t = a.state;
@@ -256,20 +256,11 @@ fn p2(rt: &impl Print) -> io::Result<State> {
     times(rt, State::initial(5), 5, Move::ReaderStep)
 }
 
-// P3 initial 5, start 9 and three writer steps, R×5.
-fn p3(rt: &impl Print) -> io::Result<()> {
-    println!(rt; "P3")?;
-    let begun = shown(rt, State::initial(5), Move::WriterStart(9))?;
-    let written = times(rt, begun, 3, Move::WriterStep)?;
-    times(rt, written, 5, Move::ReaderStep)?;
-    Ok(())
-}
-
-// P4 after P2, start 9 and seven writer steps, R×5.
-fn p4(rt: &impl Print, after_p2: State) -> io::Result<()> {
-    println!(rt; "P4")?;
-    let begun = shown(rt, after_p2, Move::WriterStart(9))?;
-    let written = times(rt, begun, 7, Move::WriterStep)?;
+// P3 and P4: from a state start 9, so many writer steps, R×5.
+fn written_and_read(rt: &impl Print, name: &str, from: State, steps: u8) -> io::Result<()> {
+    println!(rt; "{name}")?;
+    let begun = shown(rt, from, Move::WriterStart(9))?;
+    let written = times(rt, begun, steps, Move::WriterStep)?;
     times(rt, written, 5, Move::ReaderStep)?;
     Ok(())
 }
@@ -301,8 +292,8 @@ fn main(rt: HostRuntime) -> io::Result<()> {
     order(&rt)?;
     spent(&rt)?;
     let after_p2 = p2(&rt)?;
-    p3(&rt)?;
-    p4(&rt, after_p2)?;
+    written_and_read(&rt, "P3", State::initial(5), 3)?;
+    written_and_read(&rt, "P4", after_p2, 7)?;
     p5(&rt, after_p2)?;
     p6(&rt)
 }

@@ -113,7 +113,7 @@ fn words_of(s: State) -> [u32; 25]
     ]
 }
 
-// One move in place.
+// One move in place, and the number that C is handed.
 fn make(words: &mut [u32; 25], m: Move) -> u32
     ensures { MakesMoveOn m words.old words.new result }
 {

@@ -6,6 +6,7 @@
 use std::io;
 
 // Runs the schedule. The log has at most 65,531 bytes, for which there is room; `get` does not ask for a proof of it.
+// The line is printed here alone: a `Display` would need a type of its own.
 fn replayed(rt: &(impl Print + Eprint), schedule: &[u8]) -> io::Result<()> {
     let mut out = [0u8; 65536];
     let ran = replay::run(schedule, &mut out);
