@@ -5,7 +5,11 @@ use mathlib.Core.Path.{◌≡◌, sym, ◌∙◌}
 use Rattle.std.specs.Prelude.{Result}
 use Rattle.terms.specs.declared.Refusal.{Refusal}
 use Rattle.terms.specs.declared.Refused.{Refused}
-use Rattle.terms.specs.Answers.{IsAt, HasNumber, HasPlace}
+use Rattle.terms.specs.Answers.{NumbersRefusal, IsAt, HasNumber, HasPlace}
+
+-- of `u32::from` of a refusal
+pub refusal_number_unique : (refusal : Refusal) (a b : ℕ) → NumbersRefusal refusal a → NumbersRefusal refusal b → a ≡ b
+refusal_number_unique refusal a b p q = p ∙ sym q
 
 pub at_unique : (refusal : Refusal) (place : ℕ) (a b : Refused) → IsAt refusal place a → IsAt refusal place b → a ≡ b
 at_unique refusal place a b p q = p ∙ sym q

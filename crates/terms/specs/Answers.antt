@@ -19,6 +19,9 @@ abbrev pub refused_at : Refusal → ℕ → Refused
 refused_at refusal place = record { refusal = refusal; place = place }
 
 -- What the functions of `terms` promise.
+abbrev pub NumbersRefusal : Refusal → ℕ → Type 0
+NumbersRefusal refusal r = r ≡ refusal_number refusal
+
 abbrev pub IsAt : Refusal → ℕ → Refused → Type 0
 IsAt refusal place r = r ≡ refused_at refusal place
 

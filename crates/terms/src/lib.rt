@@ -2,9 +2,7 @@
 // specs/Value.antt, specs/Refusals.antt and specs/Answers.antt say the same to the proofs.
 #![tactic(auto)]
 
-ghost use Rattle.std.specs.Prelude.{◌≡◌};
-ghost use Rattle.terms.specs.Refusals.{refusal_number};
-ghost use Rattle.terms.specs.Answers.{IsAt, HasNumber, HasPlace};
+ghost use Rattle.terms.specs.Answers.{NumbersRefusal, IsAt, HasNumber, HasPlace};
 
 // A value of the register: 32 bits.
 pub type Value = u32;
@@ -28,7 +26,7 @@ pub enum Refusal {
 
 // A refusal's number.
 impl From<Refusal> for u32 {
-    ghost from_gives = { λ r n. n ≡ refusal_number r };
+    ghost from_gives = { NumbersRefusal };
 
     fn from(refusal: Refusal) -> u32 {
         match refusal {
